@@ -1,0 +1,204 @@
+// Plays a file of cases: maps that are checked and looked up in, and calls on one register. host/cases.py writes the cases and,
+// by an implementation of its own, the lines that must come out.
+use map::Found;
+use map::fields;
+use register::GeoBox;
+use register::Ground;
+use register::Licence;
+use register::Register;
+ghost use Prim.Native.Nat.{_+_, _≤_, _<_};
+ghost use lib.ListN.{length};
+
+// How many bytes a case took, and the register that it leaves.
+struct Played {
+    used: usize,
+    register: Register,
+}
+
+fn main() {
+    let mut cases = io::large_buffer();
+    let n = io::read_full(0, &mut cases);
+    play_all(&cases[..n]);
+}
+
+fn play_all(s: &[u8]) {
+    let mut at: usize = 0;
+    let mut register = Register::empty();
+    while at < s.len() {
+        let done = play(&s[at..], register);
+        at += done.used;
+        let next = done.register;
+        register = next;
+    }
+}
+
+// One case, by its first byte: M a map, G a grant, C a cancellation, E an empty register. Anything else ends the file.
+fn play(s: &[u8], register: Register) -> Played
+    requires { ⌜ 0 < length (now s) ⌝ }
+    ensures { λ r. ⌜ (0 < r .used) × (r .used ≤ length (now (s .entry))) ⌝ }
+{
+    let kind = s[0];
+    let rest = &s[1..];
+    match kind {
+        b'M' => {
+            let used = 1 + map_case(rest);
+            Played { used, register }
+        }
+        b'G' => grant_case(s, register),
+        b'C' => cancel_case(s, register),
+        b'E' => {
+            line(b"empty");
+            let empty = Register::empty();
+            Played {
+                used: 1,
+                register: empty,
+            }
+        }
+        _ => Played {
+            used: s.len(),
+            register,
+        },
+    }
+}
+
+// A map: its length, its bytes, and the numbers that are looked up in it.
+fn map_case(s: &[u8]) -> usize
+    ensures { λ r. ⌜ r ≤ length (now (s .entry)) ⌝ }
+{
+    if s.len() < 4 {
+        return s.len();
+    }
+    let size = fields::u32_at(s, 0) as usize;
+    if s.len() - 4 < size {
+        return s.len();
+    }
+    let end = 4 + size;
+    let map = &s[4..end];
+    print(b"map", map::check(map).number() as u64);
+    end + look_ups(&s[end..], map)
+}
+
+// A count of numbers, and the numbers.
+fn look_ups(s: &[u8], map: &[u8]) -> usize
+    ensures { λ r. ⌜ r ≤ length (now (s .entry)) ⌝ }
+{
+    if s.len() == 0 {
+        return 0;
+    }
+    let count = s[0];
+    let mut used: usize = 1;
+    let mut i: u8 = 0;
+    while i < count {
+        if s.len() - used < 2 {
+            return s.len();
+        }
+        look_up(map, (fields::u16_at(s, used) % 65536) as u16);
+        used += 2;
+        i += 1;
+    }
+    used
+}
+
+// The head of the area with a number, and the length and the sum of the part that holds its rows.
+fn look_up(map: &[u8], number: u16) {
+    print(b"area", number as u64);
+    match map::look_up(map, number) {
+        Found::Refused(f) => print(b" refused", f.number() as u64),
+        Found::Lacking => line(b" lacking"),
+        Found::At(a) => {
+            print(b" weight", a.weight as u64);
+            print(b" rows", a.rows as u64);
+            print(b" columns", a.columns as u64);
+            let p = a.population;
+            print(b" people", p.0);
+        }
+    }
+    let part = map::rows_of(map, number);
+    print(b" bytes", part.len() as u64);
+    print(b" sum", sum(part) as u64);
+}
+
+// The sum of the bytes, modulo 2^32.
+fn sum(s: &[u8]) -> u32 {
+    let mut total: u32 = 0;
+    let mut i: usize = 0;
+    while i < s.len() {
+        total = std::num::wrapping_add_u32(total, fields::wide(s[i]));
+        i += 1;
+    }
+    total
+}
+
+// A grant: the call sign; 0 and an area's number, or 1 and the four edges of a box.
+fn grant_case(s: &[u8], register: Register) -> Played
+    requires { ⌜ 0 < length (now s) ⌝ }
+    ensures { λ r. ⌜ (0 < r .used) × (r .used ≤ length (now (s .entry))) ⌝ }
+{
+    if s.len() < 24 {
+        return Played {
+            used: s.len(),
+            register,
+        };
+    }
+    let call_sign = fields::u32_at(s, 1);
+    let ground = ground_at(s);
+    let granted = register.grant(Licence { call_sign, ground });
+    let answer = granted.answer;
+    print(b"grant", answer.number() as u64);
+    let next = granted.next;
+    Played {
+        used: 24,
+        register: next,
+    }
+}
+
+fn ground_at(s: &[u8]) -> Ground
+    requires { ⌜ 24 ≤ length (now s) ⌝ }
+{
+    if s[5] == 0 {
+        return Ground::Area((fields::u16_at(s, 6) % 65536) as u16);
+    }
+    let south = fields::signed(fields::u32_at(s, 8));
+    let north = fields::signed(fields::u32_at(s, 12));
+    let west = fields::signed(fields::u32_at(s, 16));
+    let east = fields::signed(fields::u32_at(s, 20));
+    Ground::Box(GeoBox {
+        south,
+        north,
+        west,
+        east,
+    })
+}
+
+// A cancellation: the call sign.
+fn cancel_case(s: &[u8], register: Register) -> Played
+    requires { ⌜ 0 < length (now s) ⌝ }
+    ensures { λ r. ⌜ (0 < r .used) × (r .used ≤ length (now (s .entry))) ⌝ }
+{
+    if s.len() < 5 {
+        return Played {
+            used: s.len(),
+            register,
+        };
+    }
+    let cancelled = register.cancel(fields::u32_at(s, 1));
+    let answer = cancelled.answer;
+    print(b"cancel", answer.number() as u64);
+    let next = cancelled.next;
+    Played {
+        used: 5,
+        register: next,
+    }
+}
+
+fn line(text: &[u8]) {
+    io::write_all(1, text);
+    io::write_all(1, b"\n");
+}
+
+fn print(text: &[u8], n: u64) {
+    io::write_all(1, text);
+    io::write_all(1, b" ");
+    io::print_decimal(1, n);
+    io::write_all(1, b"\n");
+}

@@ -1,0 +1,30 @@
+-- A step of a run is the record that the function's contract names, and no function asks anything of its caller. Assumes nothing.
+use Prim.Native.Nat.{ℕ}
+use mathlib.Core.Path.{_≡_, refl}
+use Rattle.register.specs.declared.Licence.{Licence}
+use Rattle.register.specs.declared.Register.{Register}
+use Rattle.register.specs.declared.Granted.{Granted}
+use Rattle.register.specs.declared.Cancelled.{Cancelled}
+use Rattle.register.specs.Contracts.{EmptyDone, GrantDone, CancelDone}
+use Rattle.register.proofs.Register.empty.Reads as empty-reads
+use Rattle.register.proofs.Register.grant.Reads as grant-reads
+use Rattle.register.proofs.Register.cancel.Reads as cancel-reads
+use Rattle.ledger.specs.Runs.{Empties, Grants, Cancels}
+
+pub empties-is : (r : Register) → Empties r ≡ EmptyDone r
+empties-is r = refl
+
+pub grants-is : (r : Register) (l : Licence) (g : Granted) → Grants r l g ≡ GrantDone r l g
+grants-is r l g = refl
+
+pub cancels-is : (r : Register) (s : ℕ) (k : Cancelled) → Cancels r s k ≡ CancelDone r s k
+cancels-is r s k = refl
+
+pub empty-asks-nothing : empty-reads.Pre tt tt ≡ Unit {0}
+empty-asks-nothing = refl
+
+pub grant-asks-nothing : (r : Register) (l : Licence) → grant-reads.Pre tt (r, (l, tt)) ≡ Unit {0}
+grant-asks-nothing r l = refl
+
+pub cancel-asks-nothing : (r : Register) (s : ℕ) → cancel-reads.Pre tt (r, (s, tt)) ≡ Unit {0}
+cancel-asks-nothing r s = refl

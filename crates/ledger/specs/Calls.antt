@@ -1,0 +1,26 @@
+-- Document 01, "The list of demand 3": the calls of a list, and what comes of each. Assumes nothing.
+use Prim.Native.Nat.{ℕ}
+use mathlib.Core.List.{List, [], _∷_}
+use Rattle.register.specs.declared.Licence.{Licence}
+use Rattle.register.specs.declared.GrantAnswer.{GrantAnswer}
+use Rattle.register.specs.declared.CancelAnswer.{CancelAnswer}
+
+-- "The list of demand 3": a call with its arguments, but for the register
+pub data Call : Type 0 where
+  grant : (l : Licence) → Call
+  cancel : (s : ℕ) → Call
+
+-- "The list of demand 3": what comes of a call, accepted or refused
+abbrev pub Outcome : Call → Type 0
+Outcome (grant l) = GrantAnswer
+Outcome (cancel s) = CancelAnswer
+
+-- "The list of demand 3": a call that was made
+pub record Made : Type 0 where
+  pub call : Call
+  pub outcome : Outcome call
+
+-- "The list of demand 3": the calls' arguments, which are all that the ledger is fed
+abbrev pub calls : List Made → List Call
+calls [] = []
+calls (m ∷ made) = m .call ∷ calls made

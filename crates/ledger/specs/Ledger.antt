@@ -1,0 +1,18 @@
+-- Document 01, "The list of demand 3": the ledger, fed the calls' arguments and nothing from the register. Assumes nothing.
+use mathlib.Core.Bool.{cond}
+use mathlib.Core.List.{List, [], _∷_}
+use lib.Dec.{eqb}
+use Rattle.register.specs.declared.Licence.{Licence}
+use Rattle.register.specs.Licences.{strike}
+use Rattle.register.specs.Rules.{grantRule, cancelRule}
+use Rattle.ledger.specs.Calls.{Call, grant, cancel}
+
+-- "The list of demand 3": an accepted grant adds its line, an accepted cancellation strikes its own, and nothing else changes a line
+abbrev pub linesAfter : List Licence → Call → List Licence
+linesAfter lines (grant l) = cond (eqb (grantRule lines l) 0) (l ∷ lines) lines
+linesAfter lines (cancel s) = cond (eqb (cancelRule lines s) 0) (strike s lines) lines
+
+-- "The list of demand 3": the lines after a list of calls, from the lines before it
+abbrev pub ledger : List Licence → List Call → List Licence
+ledger lines [] = lines
+ledger lines (c ∷ cs) = ledger (linesAfter lines c) cs

@@ -1,0 +1,7 @@
+pub mod TestLaws
+pub mod FieldLaws
+pub mod LoopLaws
+pub mod AreaLaws
+pub mod Onward
+pub mod Part
+pub mod Accepted

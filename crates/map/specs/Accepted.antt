@@ -1,0 +1,62 @@
+-- What holds of an accepted map: laws that callers above cite. Assumes nothing.
+use Prim.Native.Nat.{ℕ, _-_, _≤_, _<_}
+use mathlib.Core.Path.{_≡_}
+use mathlib.Core.List.{List, [], _∷_}
+use mathlib.Core.Bool.{true}
+use lib.ListN.{length, take, drop}
+use lib.IntN.{pos, negℤ}
+use Rattle.map.specs.declared.Cell.{Cell}
+use Rattle.map.specs.Reading.{good}
+use Rattle.map.specs.Format.{Place, gap, cell, population, withinZ, readRows, Area}
+
+abbrev pub All : {A : Type 0} → (A → Type 0) → List A → Type 0
+All P [] = Unit {0}
+All P (a ∷ l) = P a × All P l
+
+-- between two numbers, both ends included
+abbrev pub Within : ℕ → ℕ → ℕ → Type 0
+Within low high n = (low ≤ n) × (n ≤ high)
+
+pub record CellHolds (c : Cell) : Type 0 where
+  pub people : c .people ≤ 1_000_000
+  pub latitude : withinZ (negℤ (pos 32_400_000)) (pos 32_400_000) (c .latitude) ≡ true
+  pub longitude : withinZ (negℤ (pos 64_800_000)) (pos 64_800_000) (c .longitude) ≡ true
+
+abbrev pub PlaceHolds : Place → Type 0
+PlaceHolds gap = Unit {0}
+PlaceHolds (cell c) = CellHolds c
+
+-- a row has a place for each column
+abbrev pub RowHolds : ℕ → List Place → Type 0
+RowHolds columns row = (length row ≡ columns) × All PlaceHolds row
+
+-- a grid has a list of places for each row
+abbrev pub GridHolds : (columns rows : ℕ) → List (List Place) → Type 0
+GridHolds columns rows grid = (length grid ≡ rows) × All (RowHolds columns) grid
+
+-- the part of the map that holds an area's rows
+abbrev pub partAt : List ℕ → Area → List ℕ
+partAt s a = take (a .end - a .start) (drop (a .start) s)
+
+pub record AreaHolds (s : List ℕ) (a : Area) : Type 0 where
+  pub number : Within 1 416 (a .head .number)
+  pub weight : Within 1 65_535 (a .head .weight)
+  pub rows : Within 1 128 (a .head .rows)
+  pub columns : Within 1 128 (a .head .columns)
+  pub peopled : Within 1 40_000_000 (population (a .grid))
+  pub grid : GridHolds (a .head .columns) (a .head .rows) (a .grid)
+  -- its part is inside the map
+  pub inside : (a .start ≤ a .end) × (a .end ≤ length s)
+  -- its rows are read again from its start, and in its part from 0
+  pub reads : readRows s (a .head .columns) (a .head .rows) (a .start) ≡ good (a .grid) (a .end)
+  pub part : readRows (partAt s a) (a .head .columns) (a .head .rows) 0 ≡ good (a .grid) (a .end - a .start)
+
+-- numbers ascend, from above `before`
+abbrev pub Ascending : ℕ → List Area → Type 0
+Ascending before [] = Unit {0}
+Ascending before (a ∷ l) = (before < a .head .number) × Ascending (a .head .number) l
+
+pub record MapHolds (s : List ℕ) (areas : List Area) : Type 0 where
+  pub count : Within 1 32 (length areas)
+  pub ascending : Ascending 0 areas
+  pub each : All (AreaHolds s) areas

@@ -1,0 +1,169 @@
+-- What each answer of the functions means, in the terms of the format. Assumes nothing.
+use Prim.Native.Nat.{ℕ, _-_, _≤_}
+use mathlib.Core.List.{List, [], _∷_}
+use mathlib.Core.Bool.{cond}
+use lib.ListN.{take, drop}
+use lib.Dec.{eqb}
+use lib.IntN.{ℤ}
+use Rattle.map.specs.Reading.{Read, bad, good}
+use Rattle.map.specs.Format.{Place, gap, cell, Head, population}
+use Rattle.map.specs.Format as format
+use Rattle.map.specs.declared.Fault.{Fault}
+use Rattle.map.specs.declared.Fault.the-variants.{Ends, Limit, Extra, Order, Population}
+use Rattle.map.specs.declared.Checked.{Checked}
+use Rattle.map.specs.declared.Checked.the-variants as checked
+use Rattle.map.specs.declared.Cell.{Cell}
+use Rattle.map.specs.declared.Area.{Area}
+use Rattle.map.specs.declared.Found.{Found}
+use Rattle.map.specs.declared.Found.the-variants as found
+use Rattle.map.specs.declared.fields.Field.{Field}
+use Rattle.map.specs.declared.fields.Field.the-variants as field
+use Rattle.map.specs.declared.fields.Coordinate.{Coordinate}
+use Rattle.map.specs.declared.fields.Coordinate.the-variants as coordinate
+use Rattle.map.specs.declared.parts.CellRead.{CellRead}
+use Rattle.map.specs.declared.parts.CellRead.the-variants as cell-read
+use Rattle.map.specs.declared.parts.PlaceRead.{PlaceRead}
+use Rattle.map.specs.declared.parts.PlaceRead.the-variants as place-read
+use Rattle.map.specs.declared.parts.Tally.{Tally}
+use Rattle.map.specs.declared.parts.Tally.the-variants as tally
+use Rattle.map.specs.declared.parts.Head as parts
+use Rattle.map.specs.declared.parts.HeadRead.{HeadRead}
+use Rattle.map.specs.declared.parts.HeadRead.the-variants as head-read
+use Rattle.map.specs.declared.parts.AreaRead.{AreaRead}
+use Rattle.map.specs.declared.parts.AreaRead.the-variants as area-read
+
+-- "Refused by the input", 1 to 5
+abbrev pub faultNumber : Fault → ℕ
+faultNumber Ends = 1
+faultNumber Limit = 2
+faultNumber Extra = 3
+faultNumber Order = 4
+faultNumber Population = 5
+
+-- ---- a whole map: 0 for accepted, else the number of its refusal
+
+abbrev pub checkedNumber : Checked → ℕ
+checkedNumber checked.Accepted = 0
+checkedNumber (checked.Refused f) = faultNumber f
+
+abbrev pub numberOf : {A : Type 0} → Read A → ℕ
+numberOf (bad f) = f
+numberOf (good a e) = 0
+
+-- ---- fields and cells
+
+abbrev pub fieldMeans : Field → Read ℕ
+fieldMeans (field.Bad f) = bad (faultNumber f)
+fieldMeans (field.Good v e) = good v e
+
+abbrev pub fieldValue : Field → ℕ
+fieldValue (field.Bad f) = 0
+fieldValue (field.Good v e) = v
+
+abbrev pub coordinateMeans : Coordinate → Read ℤ
+coordinateMeans (coordinate.Bad f) = bad (faultNumber f)
+coordinateMeans (coordinate.Good v e) = good v e
+
+abbrev pub cellMeans : CellRead → Read Cell
+cellMeans (cell-read.Bad f) = bad (faultNumber f)
+cellMeans (cell-read.Good c e) = good c e
+
+abbrev pub cellPeople : CellRead → ℕ
+cellPeople (cell-read.Bad f) = 0
+cellPeople (cell-read.Good c e) = c .people
+
+abbrev pub placeMeans : PlaceRead → Read Place
+placeMeans (place-read.Bad f) = bad (faultNumber f)
+placeMeans (place-read.Gap e) = good gap e
+placeMeans (place-read.There c e) = good (cell c) e
+
+abbrev pub placeCount : PlaceRead → ℕ
+placeCount (place-read.Bad f) = 0
+placeCount (place-read.Gap e) = 0
+placeCount (place-read.There c e) = c .people
+
+-- ---- people that were counted
+
+abbrev pub tallyMeans : Tally → Read ℕ
+tallyMeans (tally.Bad f) = bad (faultNumber f)
+tallyMeans (tally.Good p e) = good (p .0) e
+
+abbrev pub tallyPeople : Tally → ℕ
+tallyPeople (tally.Bad f) = 0
+tallyPeople (tally.Good p e) = p .0
+
+-- ---- heads and areas
+
+abbrev pub headOf : parts.Head → Head
+headOf h = record { number = h .number; weight = h .weight; rows = h .rows; columns = h .columns }
+
+abbrev pub headMeans : HeadRead → Read Head
+headMeans (head-read.Bad f) = bad (faultNumber f)
+headMeans (head-read.Good h e) = good (headOf h) e
+
+-- rows and columns are at most n
+abbrev pub headWithin : ℕ → HeadRead → Type 0
+headWithin n (head-read.Bad f) = Unit {0}
+headWithin n (head-read.Good h e) = (h .rows ≤ n) × (h .columns ≤ n)
+
+-- what is handed out of an area: its head, its population and where its rows stand
+abbrev pub summary : format.Area → Area
+summary a = record {
+  number = a .head .number;
+  weight = a .head .weight;
+  rows = a .head .rows;
+  columns = a .head .columns;
+  population = record { 0 = population (a .grid) };
+  start = a .start;
+  end = a .end;
+}
+
+abbrev pub areaMeans : AreaRead → Read Area
+areaMeans (area-read.Bad f) = bad (faultNumber f)
+areaMeans (area-read.Good a) = good a (a .end)
+
+-- ---- "When an area is looked up by its number"
+
+pub data Located : Type 0 where
+  none : Located
+  some : format.Area → Located
+
+-- the area with a number
+unfoldable pub locate : ℕ → List format.Area → Located
+locate n [] = none
+locate n (a ∷ l) = cond (eqb (a .head .number) n) (some a) (locate n l)
+
+-- a map that is refused, lacks the number, or has the area
+pub data LookedUp : Type 0 where
+  refused : ℕ → LookedUp
+  lacking : LookedUp
+  has : Area → LookedUp
+
+abbrev pub foundMeans : Found → LookedUp
+foundMeans (found.Refused f) = refused (faultNumber f)
+foundMeans found.Lacking = lacking
+foundMeans (found.At a) = has a
+
+abbrev pub located : Located → LookedUp
+located none = lacking
+located (some a) = has (summary a)
+
+unfoldable pub lookUp : ℕ → Read (List format.Area) → LookedUp
+lookUp n (bad f) = refused f
+lookUp n (good l e) = located (locate n l)
+
+-- "the part of the map that holds that area's rows .. first bit map to last cell"
+abbrev pub rowsPart : List ℕ → Located → List ℕ
+rowsPart s none = []
+rowsPart s (some a) = take (a .end - a .start) (drop (a .start) s)
+
+-- "the part is empty if the map lacks the number or is refused by 1 to 5"
+unfoldable pub partOf : List ℕ → ℕ → Read (List format.Area) → List ℕ
+partOf s n (bad f) = []
+partOf s n (good l e) = rowsPart s (locate n l)
+
+-- what is found after one more area: the first with the number counts
+abbrev pub kept : Found → Area → ℕ → Found
+kept (found.Refused f) a n = found.Refused f
+kept found.Lacking a n = cond (eqb (a .number) n) (found.At a) found.Lacking
+kept (found.At b) a n = found.At b

@@ -1,0 +1,6 @@
+pub mod Reading
+pub mod Format
+pub mod Counting
+pub mod Answers
+pub mod Accepted
+pub mod Examples

@@ -1,0 +1,149 @@
+// Fields of the map's bytes: each is a fault, or its value with the position after it.
+use super::Fault;
+ghost use mathlib.Core.Path.{_≡_};
+ghost use Prim.Native.Nat.{_+_, _≤_, _<_};
+ghost use lib.ListN.{length};
+ghost use lib.Dec.{leb};
+ghost use mathlib.Core.Bool.{cond};
+ghost use Rattle.map.specs.Reading.{good, bad};
+ghost use Rattle.map.specs.Format.{u16At, u32At, signed32, within, withinZ};
+ghost use Rattle.map.specs.Format.{u8Field, u16Field, u32Field, i32Field, sizeField, numberField};
+ghost use Rattle.map.specs.Answers.{fieldMeans, fieldValue, coordinateMeans};
+
+pub enum Field {
+    Bad(Fault),
+    Good(u32, usize),
+}
+
+pub enum Coordinate {
+    Bad(Fault),
+    Good(i32, usize),
+}
+
+// Whether n bytes stand at a position, which may be any.
+pub fn has_room(s: &[u8], at: usize, n: usize) -> bool
+    ensures { λ r. ⌜ r ≡ leb (at + n) (length (now (s .entry))) ⌝ }
+{
+    if at <= s.len() {
+        n <= s.len() - at
+    } else {
+        false
+    }
+}
+
+pub fn wide(x: u8) -> u32
+    ensures { λ r. ⌜ (r ≡ x) × (r < 256) ⌝ }
+{
+    x as u32
+}
+
+pub fn u16_at(s: &[u8], at: usize) -> u32
+    requires { ⌜ at + 2 ≤ length (now s) ⌝ }
+    ensures { λ r. ⌜ (r ≡ u16At (now (s .entry)) at) × (r < 65536) ⌝ }
+{
+    wide(s[at]) + 256 * wide(s[at + 1])
+}
+
+pub fn u32_at(s: &[u8], at: usize) -> u32
+    requires { ⌜ at + 4 ≤ length (now s) ⌝ }
+    ensures { λ r. ⌜ r ≡ u32At (now (s .entry)) at ⌝ }
+{
+    u16_at(s, at) + 65536 * u16_at(s, at + 2)
+}
+
+// The number whose two's complement is v.
+pub fn signed(v: u32) -> i32
+    ensures { λ r. ⌜ r ≡ signed32 v ⌝ }
+{
+    if v < 2147483648 {
+        v as i32
+    } else {
+        -1 - ((4294967295 - v) as i32)
+    }
+}
+
+// A value that was read, if it is within its limits.
+fn limited(v: u32, low: u32, high: u32, next: usize) -> Field
+    ensures { λ r. ⌜ (fieldMeans r ≡ cond (within low high v) (good v next) (bad 2)) × (fieldValue r ≤ high) ⌝ }
+{
+    if v < low {
+        return Field::Bad(Fault::Limit);
+    }
+    if high < v {
+        return Field::Bad(Fault::Limit);
+    }
+    Field::Good(v, next)
+}
+
+pub fn u8_field(s: &[u8], at: usize, low: u32, high: u32) -> Field
+    ensures { λ r. ⌜ (fieldMeans r ≡ u8Field (now (s .entry)) at low high) × (fieldValue r ≤ high) ⌝ }
+{
+    if has_room(s, at, 1) {
+        limited(wide(s[at]), low, high, at + 1)
+    } else {
+        Field::Bad(Fault::Ends)
+    }
+}
+
+fn u16_field(s: &[u8], at: usize, low: u32, high: u32) -> Field
+    ensures { λ r. ⌜ (fieldMeans r ≡ u16Field (now (s .entry)) at low high) × (fieldValue r ≤ high) ⌝ }
+{
+    if has_room(s, at, 2) {
+        limited(u16_at(s, at), low, high, at + 2)
+    } else {
+        Field::Bad(Fault::Ends)
+    }
+}
+
+pub fn u32_field(s: &[u8], at: usize, low: u32, high: u32) -> Field
+    ensures { λ r. ⌜ (fieldMeans r ≡ u32Field (now (s .entry)) at low high) × (fieldValue r ≤ high) ⌝ }
+{
+    if has_room(s, at, 4) {
+        limited(u32_at(s, at), low, high, at + 4)
+    } else {
+        Field::Bad(Fault::Ends)
+    }
+}
+
+fn limited_signed(v: i32, low: i32, high: i32, next: usize) -> Coordinate
+    ensures { λ r. ⌜ coordinateMeans r ≡ cond (withinZ low high v) (good v next) (bad 2) ⌝ }
+{
+    if low <= v {
+        if v <= high {
+            return Coordinate::Good(v, next);
+        }
+    }
+    Coordinate::Bad(Fault::Limit)
+}
+
+pub fn i32_field(s: &[u8], at: usize, low: i32, high: i32) -> Coordinate
+    ensures { λ r. ⌜ coordinateMeans r ≡ i32Field (now (s .entry)) at low high ⌝ }
+{
+    if has_room(s, at, 4) {
+        limited_signed(signed(u32_at(s, at)), low, high, at + 4)
+    } else {
+        Coordinate::Bad(Fault::Ends)
+    }
+}
+
+// Rows, or columns.
+pub fn size_field(s: &[u8], at: usize) -> Field
+    ensures { λ r. ⌜ (fieldMeans r ≡ sizeField (now (s .entry)) at) × (fieldValue r ≤ 128) ⌝ }
+{
+    u8_field(s, at, 1, 128)
+}
+
+// An area's number, above the one before.
+pub fn number_field(s: &[u8], before: u16, at: usize) -> Field
+    ensures { λ r. ⌜ (fieldMeans r ≡ numberField (now (s .entry)) before at) × (fieldValue r ≤ 416) ⌝ }
+{
+    match u16_field(s, at, 1, 416) {
+        Field::Bad(f) => Field::Bad(f),
+        Field::Good(n, next) => {
+            if before as u32 >= n {
+                return Field::Bad(Fault::Order);
+            }
+            Field::Good(n, next)
+        }
+    }
+}

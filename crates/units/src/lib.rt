@@ -1,0 +1,54 @@
+// People and weighted MHz-pops: two units with names of their own (document 01, "Coverage and blocks").
+// Each function adds or compares one of them with itself, so no sum mixes them.
+ghost use mathlib.Core.Path.{_≡_};
+ghost use Prim.Native.Nat.{_+_, _*_, _-_};
+ghost use lib.Dec.{leb};
+ghost use Rattle.units.specs.Sums.{capped};
+
+// A count of people.
+pub struct People(pub u64);
+
+// An amount of weighted MHz-pops: MHz × weight × people.
+pub struct Weighted(pub u64);
+
+// The sum of two counts, which stops at the largest u64.
+fn sum(a: u64, b: u64) -> u64
+    ensures { λ r. ⌜ r ≡ capped (a + b) ⌝ }
+{
+    if b <= u64::MAX - a { a + b } else { u64::MAX }
+}
+
+impl People {
+    // The people of a cell, counted so many times.
+    pub fn counted(people: u32, times: u32) -> Self
+        ensures { λ r. ⌜ r .0 ≡ people * times ⌝ }
+    {
+        People((people as u64) * (times as u64))
+    }
+
+    pub fn plus(self, other: Self) -> Self
+        ensures { λ r. ⌜ r .0 ≡ capped (self .0 + other .0) ⌝ }
+    {
+        People(sum(self.0, other.0))
+    }
+
+    pub fn at_most(self, other: Self) -> bool
+        ensures { λ r. ⌜ r ≡ leb (self .0) (other .0) ⌝ }
+    {
+        self.0 <= other.0
+    }
+}
+
+impl Weighted {
+    pub fn plus(self, other: Self) -> Self
+        ensures { λ r. ⌜ r .0 ≡ capped (self .0 + other .0) ⌝ }
+    {
+        Weighted(sum(self.0, other.0))
+    }
+
+    pub fn at_most(self, other: Self) -> bool
+        ensures { λ r. ⌜ r ≡ leb (self .0) (other .0) ⌝ }
+    {
+        self.0 <= other.0
+    }
+}
