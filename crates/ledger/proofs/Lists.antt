@@ -13,10 +13,11 @@ use Rattle.register.specs.declared.Cancelled.{Cancelled}
 use Rattle.register.specs.Licences.{freePlace, inForce, strike}
 use Rattle.register.specs.Rules.{grantNumber, cancelNumber, limit, grantRule, cancelRule}
 use Rattle.register.specs.Contracts.{GrantDone, CancelDone}
-use Rattle.register.specs.Sums.{total, SameLicences, signs}
-use Rattle.register.proofs.Laws.{by-test, sign-is, formed-sign, accepted-formed, accepted-new, accepted-room}
+use Rattle.register.specs.Sums.{SameLicences, signs}
+use Rattle.lists.specs.Sums.{total}
+use Rattle.register.proofs.Laws.{sign-is, formed-sign, accepted-formed, accepted-new, accepted-room}
+use Rattle.lists.proofs.Tests.{by-test}
 use Rattle.register.proofs.Sums.{
-  length-total,
   same-grant,
   same-cancel,
   same-strike,
@@ -25,6 +26,7 @@ use Rattle.register.proofs.Sums.{
   once-added,
   strike-le,
 }
+use Rattle.lists.proofs.SumLaws.{length-total}
 use Rattle.ledger.specs.Calls.{Call, grant, cancel, Outcome, Made, calls}
 use Rattle.ledger.specs.Ledger.{linesAfter, ledger}
 use Rattle.ledger.specs.Runs.{Empties, Step, Run, done, step}

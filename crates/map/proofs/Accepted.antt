@@ -27,7 +27,8 @@ use Rattle.map.specs.Answers.{
   rowsPart,
   partOf,
 }
-use Rattle.map.specs.Accepted.{All, Within, GridHolds, AreaHolds, Ascending, MapHolds, partAt}
+use Rattle.map.specs.Accepted.{Within, GridHolds, AreaHolds, Ascending, MapHolds, partAt}
+use Rattle.lists.specs.Sums.{All}
 use Rattle.map.specs.declared.Area as handed
 use Rattle.map.proofs.Onward.{
   Gives,

@@ -14,7 +14,6 @@ use Rattle.map.specs.Format.{
   cell,
   peopleAt,
   population,
-  total,
   within,
   Head,
   Area,
@@ -24,7 +23,9 @@ use Rattle.map.specs.Format.{
   readAreas,
   readRest,
 }
-use Rattle.map.specs.Counting.{count, boxesOver, placePeople, gridPeople}
+use Rattle.lists.specs.Sums.{total}
+use Rattle.map.specs.Counting.{boxesOver, placePeople, gridPeople}
+use Rattle.lists.specs.Sums.{count}
 use Rattle.map.specs.Answers.{
   summary,
   Located,
@@ -44,7 +45,7 @@ use Rattle.map.specs.Answers.{
 use Rattle.map.specs.declared.Area as handed
 use Rattle.map.specs.declared.Found.{Found}
 use Rattle.map.specs.declared.Found.the-variants as found
-use Rattle.map.proofs.TestLaws.{takes, leaves}
+use Rattle.lists.proofs.Tests.{takes, leaves}
 use Rattle.map.proofs.FieldLaws.{bind-bad}
 use Rattle.map.proofs.LoopLaws.{sub-step, sub-end}
 

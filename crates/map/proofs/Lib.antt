@@ -1,4 +1,4 @@
-pub mod TestLaws
+pub mod SignedLaws
 pub mod FieldLaws
 pub mod LoopLaws
 pub mod AreaLaws

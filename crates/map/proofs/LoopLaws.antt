@@ -9,7 +9,8 @@ use native.Mathlib.Numerals.{add-one}
 use Rattle.units.specs.Sums.{largest, capped}
 use Rattle.units.proofs.Laws.{exact}
 use Rattle.map.specs.Reading.{Read, bad, good, bind, mapRead, many}
-use Rattle.map.specs.Format.{bitAt, clearFrom, total}
+use Rattle.map.specs.Format.{bitAt, clearFrom}
+use Rattle.lists.specs.Sums.{total}
 
 pub sub-step : (n j : ℕ) → j < n → n - j ≡ suc (n - (j + 1))
 sub-step n j h = omega arith
@@ -47,7 +48,6 @@ module _ {A : Type 0} (item : ℕ → ℕ → Read A) (f : A → ℕ) where
 
   counted : (acc : ℕ) (a : A) (r : Read (List A))
       → addRead acc (mapRead (total f) (bind r (λ l e. good (a ∷ l) e))) ≡ addRead (acc + f a) (mapRead (total f) r)
-  unfolding total
   counted acc a (bad x) = refl
   counted acc a (good l e) = ap (λ (k : ℕ). good k e) (omega arith)
 
@@ -78,7 +78,7 @@ module _ {A : Type 0} (item : ℕ → ℕ → Read A) (f : A → ℕ) where
       go (good a m) w = cc
 
   rest-end : (n j at acc : ℕ) → n ≤ j → rest n j at acc ≡ good acc at
-  unfolding many total
+  unfolding many
   rest-end n j at acc h =
       ap (λ (k : ℕ). addRead acc (mapRead (total f) (many item k j at))) (sub-end n j h)
       ∙ ap (λ (k : ℕ). good k at) (add-zero acc)

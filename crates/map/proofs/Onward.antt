@@ -34,8 +34,9 @@ use Rattle.map.specs.Format.{
   sizeField,
   readHead,
 }
-use Rattle.map.specs.Accepted.{All, Within, CellHolds, PlaceHolds, RowHolds, GridHolds}
-use Rattle.map.proofs.TestLaws.{first-of, second-of}
+use Rattle.map.specs.Accepted.{Within, CellHolds, PlaceHolds, RowHolds, GridHolds}
+use Rattle.lists.specs.Sums.{All}
+use Rattle.lists.proofs.Tests.{first-of, second-of}
 
 -- P of what is read and of the position after it, if the reading is good
 abbrev pub Gives : {A : Type 0} → (A → ℕ → Type 0) → Read A → Type 0

@@ -34,7 +34,7 @@ use Rattle.map.specs.Format.{
   readRow,
   readRows,
 }
-use Rattle.map.proofs.TestLaws.{takes}
+use Rattle.lists.proofs.Tests.{takes}
 use Rattle.map.proofs.Onward.{
   Gives,
   FieldHas,

@@ -5,13 +5,10 @@ use mathlib.Core.List.{List, [], _∷_}
 use mathlib.Core.Bool.{true}
 use lib.ListN.{length, take, drop}
 use lib.IntN.{pos, negℤ}
+use Rattle.lists.specs.Sums.{All}
 use Rattle.map.specs.declared.Cell.{Cell}
 use Rattle.map.specs.Reading.{good}
 use Rattle.map.specs.Format.{Place, gap, cell, population, withinZ, readRows, Area}
-
-abbrev pub All : {A : Type 0} → (A → Type 0) → List A → Type 0
-All P [] = Unit {0}
-All P (a ∷ l) = P a × All P l
 
 -- between two numbers, both ends included
 abbrev pub Within : ℕ → ℕ → ℕ → Type 0

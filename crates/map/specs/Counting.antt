@@ -1,26 +1,18 @@
 -- The people of an area's cells, each cell counted as often as it is covered. Population and coverage are both such sums.
 -- Assumes nothing.
-use Prim.Native.Nat.{ℕ, zero, suc, _+_, _*_, _/_}
+use Prim.Native.Nat.{ℕ, _+_, _*_, _/_}
 use mathlib.Core.List.{List}
-use mathlib.Core.Bool.{Bool, cond, _&&_}
+use mathlib.Core.Bool.{Bool, _&&_}
 use lib.IntN.{ℤ, pos}
 use lib.ListN.{length, getD}
 use lib.Signed.{leZ, ltZ}
-use Rattle.map.specs.Format.{Place, gap, cell, total}
+use Rattle.lists.specs.Sums.{total, count}
+use Rattle.map.specs.Format.{Place, gap, cell}
 
 -- "Coverage and blocks": south ≤ latitude < north and west ≤ longitude < east
 abbrev pub boxCovers : (south north west east latitude longitude : ℤ) → Bool
 boxCovers south north west east latitude longitude =
     leZ south latitude && ltZ latitude north && leZ west longitude && ltZ longitude east
-
--- 1 for true, 0 for false
-abbrev pub flag : Bool → ℕ
-flag b = cond b 1 0
-
--- how many numbers below n pass a test
-unfoldable pub count : (ℕ → Bool) → (n : ℕ) → ℕ
-count test zero = 0
-count test (suc i) = count test i + flag (test i)
 
 -- box i of n covers a point: the edges are the n souths, then the n norths, the n wests and the n easts
 abbrev pub boxAt : List ℤ → (latitude longitude : ℤ) → (n i : ℕ) → Bool

@@ -19,7 +19,6 @@ use Rattle.map.specs.Format.{
   numberField,
   sizeField,
   readHead,
-  total,
   readBody,
   readArea,
   readAreas,
@@ -28,7 +27,9 @@ use Rattle.map.specs.Format.{
   Place,
   Area,
 }
-use Rattle.map.specs.Counting.{count, boxesOver, placePeople, gridPeople}
+use Rattle.lists.specs.Sums.{total}
+use Rattle.map.specs.Counting.{boxesOver, placePeople, gridPeople}
+use Rattle.lists.specs.Sums.{count}
 use Rattle.map.specs.Answers.{numberOf, locate, partOf}
 
 -- ---- bytes
@@ -154,7 +155,7 @@ allRight (r ∷ rs) = eqb (numberOf (readMap (r .bytes))) (r .number) && allRigh
 
 checks-right : allRight table ≡ true
 unfolding many u16At u32At signed32 field readCell bitAt readPlace clearFrom readRow
-    numberField sizeField readHead total readBody readArea readAreas readRest readMap
+    numberField sizeField readHead readBody readArea readAreas readRest readMap
 checks-right = refl
 
 -- ---- the part that is handed out
@@ -189,7 +190,7 @@ allFound (r ∷ rs) = same (partOf (r .bytes) (r .number) (readMap (r .bytes))) 
 
 look-ups-right : allFound lookUps ≡ true
 unfolding partOf locate many u16At u32At signed32 field readCell bitAt readPlace clearFrom readRow
-    numberField sizeField readHead total readBody readArea readAreas readRest readMap
+    numberField sizeField readHead readBody readArea readAreas readRest readMap
 look-ups-right = refl
 
 -- ---- people that are counted: the map `row` has its cells at latitude 0 and longitudes 0 to 4
@@ -231,5 +232,5 @@ allCounted (r ∷ rs) = eqb (peopleOf (r .always) (r .edges) (readMap row)) (r .
 
 counts-right : allCounted counted ≡ true
 unfolding count boxesOver placePeople many u16At u32At signed32 field readCell bitAt readPlace clearFrom readRow
-    numberField sizeField readHead total readBody readArea readAreas readRest readMap
+    numberField sizeField readHead readBody readArea readAreas readRest readMap
 counts-right = refl

@@ -6,6 +6,7 @@ use lib.ListN.{length, getD}
 use lib.Dec.{ltb, leb, eqb}
 use lib.IntN.{ℤ, pos, negsuc, negℤ}
 use lib.Signed.{leZ}
+use Rattle.lists.specs.Sums.{total}
 use Rattle.map.specs.declared.Cell.{Cell}
 use Rattle.map.specs.Reading.{Read, bad, good, bind, many}
 
@@ -135,10 +136,6 @@ readHead s before at =
     bind (sizeField s b) (λ rows d.
     bind (sizeField s d) (λ columns e.
     good (record { number = number; weight = weight; rows = rows; columns = columns }) e))))
-
-unfoldable pub total : {A : Type 0} → (A → ℕ) → List A → ℕ
-total f [] = 0
-total f (a ∷ l) = f a + total f l
 
 abbrev pub peopleAt : Place → ℕ
 peopleAt gap = 0

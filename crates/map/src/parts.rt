@@ -11,7 +11,8 @@ ghost use Prim.Native.Nat.{_+_, _*_, _-_, _/_, _≤_, _<_};
 ghost use lib.ListN.{length};
 ghost use Rattle.map.specs.Reading.{many, mapRead};
 ghost use Rattle.map.specs.Format.{bitAt, clearFrom, readCell, readPlace, readRow, readRows, readHead, readBody, readArea};
-ghost use Rattle.map.specs.Counting.{flag, boxCovers, boxesOver, placePeople, rowPeople, gridPeople};
+ghost use Rattle.map.specs.Counting.{boxCovers, boxesOver, placePeople, rowPeople, gridPeople};
+ghost use Rattle.lists.specs.Sums.{flag};
 ghost use Rattle.map.specs.Answers.{cellMeans, cellPeople, placeMeans, placeCount, tallyMeans, tallyPeople};
 ghost use Rattle.map.specs.Answers.{headOf, headMeans, headWithin, summary, areaMeans};
 

@@ -1,7 +1,7 @@
 -- Laws of the licences in force, the rules and a release. Assumes nothing.
 use Prim.Native.Nat.{ℕ, zero, suc, _+_, _≤_, _<_}
 use mathlib.Core.Path.{_≡_, refl, sym, ap, _∙_}
-use mathlib.Core.Bool.{Bool, true, false, cond, _||_}
+use mathlib.Core.Bool.{true, false, cond, _||_}
 use mathlib.Core.List.{List, [], _∷_}
 use native.Mathlib.Omega.{arith}
 use native.Mathlib.Nat.{not-suc-le-zero}
@@ -10,18 +10,10 @@ use lib.Dec.{leb}
 use lib.ListN.{length, getD, set}
 use lib.Seq.{set-getD}
 use borrow.Author.Tests.{eqb-true, eq-eqb, ne-eqb, le-leb, lt-leb, leb-true, leb-false}
+use Rattle.lists.proofs.Tests.{by-test, not-both}
 use Rattle.register.specs.declared.Licence.{Licence}
 use Rattle.register.specs.Licences.{wellFormed, freePlace, hasSign, inForce, held, release}
 use Rattle.register.specs.Rules.{limit, grantRule, cancelRule}
-
--- by the two values of a test, with the equation in each
-pub by-test {ℓ} : {C : Type ℓ} (b : Bool) → (b ≡ true → C) → (b ≡ false → C) → C
-by-test true y n = y refl
-by-test false y n = n refl
-
--- no test is both true and false
-pub not-both {ℓ} : {C : Type ℓ} {b : Bool} → b ≡ true → b ≡ false → C
-not-both t f = absurd (let z : _≡_ {A = ℕ} 0 1 = cc in omega arith)
 
 -- ---- the test for a call sign
 

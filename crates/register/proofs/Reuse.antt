@@ -13,7 +13,8 @@ use Rattle.register.specs.declared.Cancelled.{Cancelled}
 use Rattle.register.specs.Licences.{wellFormed, freePlace, hasSign, inForce, held, strike, release}
 use Rattle.register.specs.Rules.{grantNumber, cancelNumber}
 use Rattle.register.specs.Contracts.{GrantDone, CancelDone}
-use Rattle.register.proofs.Laws.{by-test, is-sign, some-free, rule-accepted, accepted-held}
+use Rattle.register.proofs.Laws.{is-sign, some-free, rule-accepted, accepted-held}
+use Rattle.lists.proofs.Tests.{by-test}
 use Rattle.register.proofs.Sums.{release-strike, struck-some, struck-gone}
 
 length-release : (s : ℕ) (ps : List Licence) → length (release s ps) ≡ length ps

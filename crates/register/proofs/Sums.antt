@@ -7,33 +7,22 @@ use native.Mathlib.Omega.{arith}
 use native.Mathlib.Nat.{not-suc-le-zero, zero-add}
 use lib.Dec.{ltb}
 use lib.ListN.{length, getD, set}
-use borrow.Author.Tests.{lt-ltb, ltb-true, ltb-false}
+use borrow.Author.Tests.{ltb-true, ltb-false}
+use Rattle.lists.specs.Sums.{flag}
+use Rattle.lists.proofs.SumLaws.{length-total, any-total}
 use Rattle.register.specs.declared.Licence.{Licence}
 use Rattle.register.specs.Licences.{freePlace, hasSign, inForce, held, strike, release}
 use Rattle.register.specs.Rules.{grantRule, cancelRule}
 use Rattle.register.specs.Contracts.{Placed}
-use Rattle.register.specs.Sums.{total, any, SameLicences, signs, OnceEach, atPlace, passesAt}
-use Rattle.register.proofs.Laws.{by-test, sign-is, sign-not, is-sign}
+use Rattle.register.specs.Sums.{SameLicences, signs, OnceEach, atPlace, passesAt}
+use Rattle.lists.specs.Sums.{total, any}
+use Rattle.register.proofs.Laws.{sign-is, sign-not, is-sign}
+use Rattle.lists.proofs.Tests.{by-test}
 
 -- ---- tests and counts are sums
 
-pub length-total : (xs : List Licence) → length xs ≡ total (λ _. 1) xs
-length-total [] = refl
-length-total (l ∷ xs) = let h = length-total xs in omega arith
-
-any-total : (p : Licence → Bool) (xs : List Licence) → any p xs ≡ ltb 0 (total (λ l. cond (p l) 1 0) xs)
-any-total p [] = refl
-any-total p (l ∷ xs) =
-    by-test (p l)
-    (λ t. simp t (sym (lt-ltb 0 (1 + total (λ l. cond (p l) 1 0) xs) (omega arith))))
-    (λ t. simp (t, zero-add) (any-total p xs))
-
 held-total : (s : ℕ) (xs : List Licence) → held s xs ≡ ltb 0 (total (signs s) xs)
-held-total s xs = go xs ∙ any-total (hasSign s) xs
-  where
-    go : (xs : List Licence) → held s xs ≡ any (hasSign s) xs
-    go [] = refl
-    go (l ∷ xs) = ap (λ b. hasSign s l || b) (go xs)
+held-total s xs = any-total (hasSign s) xs
 
 strike-total : (f : Licence → ℕ) (s : ℕ) (xs : List Licence) → total f (strike s xs) ≡ total (λ l. cond (hasSign s l) 0 (f l)) xs
 strike-total f s [] = refl
@@ -49,7 +38,7 @@ module _ (xs ys : List Licence) (same : SameLicences xs ys) where
   same-held s = held-total s xs ∙ ap (ltb 0) (same (signs s)) ∙ sym (held-total s ys)
 
   pub same-any : (p : Licence → Bool) → any p xs ≡ any p ys
-  same-any p = any-total p xs ∙ ap (ltb 0) (same (λ l. cond (p l) 1 0)) ∙ sym (any-total p ys)
+  same-any p = any-total p xs ∙ ap (ltb 0) (same (λ l. flag (p l))) ∙ sym (any-total p ys)
 
   pub same-length : length xs ≡ length ys
   same-length = length-total xs ∙ same (λ _. 1) ∙ sym (length-total ys)

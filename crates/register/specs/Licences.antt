@@ -1,10 +1,11 @@
 -- Document 01, "The register": well-formed licences, and the licences in force. Assumes nothing.
 use Prim.Native.Nat.{ℕ}
-use mathlib.Core.Bool.{Bool, false, cond, not, _&&_, _||_}
+use mathlib.Core.Bool.{Bool, cond, not, _&&_}
 use mathlib.Core.List.{List, [], _∷_}
 use lib.Dec.{leb, eqb}
 use lib.IntN.{ℤ, pos, negℤ}
 use lib.Signed.{ltZ, leZ}
+use Rattle.lists.specs.Sums.{any}
 use Rattle.register.specs.declared.GeoBox.{GeoBox}
 use Rattle.register.specs.declared.Ground.{Ground}
 use Rattle.register.specs.declared.Ground.the-variants.{Area, Box}
@@ -52,8 +53,7 @@ inForce (l ∷ places) = cond (hasSign 0 l) (inForce places) (l ∷ inForce plac
 
 -- "The list of demand 3": some line has the call sign
 abbrev pub held : ℕ → List Licence → Bool
-held s [] = false
-held s (l ∷ lines) = hasSign s l || held s lines
+held s lines = any (hasSign s) lines
 
 -- "The list of demand 3": the lines, with what has the call sign struck
 abbrev pub strike : ℕ → List Licence → List Licence

@@ -189,10 +189,7 @@ impl Register {
 fn in_range(low: i32, high: i32, z: i32) -> bool
     ensures { λ r. ⌜ r ≡ inRange low high z ⌝ }
 {
-    if !(low <= z) {
-        return false;
-    }
-    z <= high
+    (low <= z) & (z <= high)
 }
 
 // Whether a box is well formed.
@@ -203,22 +200,12 @@ fn box_formed(b: GeoBox) -> bool
     let north = b.north;
     let west = b.west;
     let east = b.east;
-    if !(south < north) {
-        return false;
-    }
-    if !(west < east) {
-        return false;
-    }
-    if !in_range(-32_400_000, 32_400_000, south) {
-        return false;
-    }
-    if !in_range(-32_400_000, 32_400_000, north) {
-        return false;
-    }
-    if !in_range(-64_800_000, 64_800_000, west) {
-        return false;
-    }
-    in_range(-64_800_000, 64_800_000, east)
+    (south < north)
+        & (west < east)
+        & in_range(-32_400_000, 32_400_000, south)
+        & in_range(-32_400_000, 32_400_000, north)
+        & in_range(-64_800_000, 64_800_000, west)
+        & in_range(-64_800_000, 64_800_000, east)
 }
 
 // Whether a ground is well formed.

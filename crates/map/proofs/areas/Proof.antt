@@ -3,7 +3,7 @@ use Prim.Native.Nat.{_-_}
 use mathlib.Core.Path.{sym, ap, _∙_}
 use native.Mathlib.Omega.{arith}
 use borrow.Author.Tests.{eq-eqb, ne-eqb}
-use Rattle.map.proofs.TestLaws.{takes, leaves}
+use Rattle.lists.proofs.Tests.{takes, leaves}
 use Rattle.map.proofs.AreaLaws.{Search, search-starts, search-stops, search-turns, search-ends}
 use Rattle.map.specs.Answers.{areaMeans}
 use borrow.Author.Needs.{needs}

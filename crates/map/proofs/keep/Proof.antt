@@ -1,7 +1,7 @@
 -- `map::keep`: by what is found so far. Assumes nothing.
 use mathlib.Core.Path.{sym, ap, _∙_}
 use borrow.Author.Tests.{eq-eqb, ne-eqb}
-use Rattle.map.proofs.TestLaws.{takes, leaves}
+use Rattle.lists.proofs.Tests.{takes, leaves}
 use Rattle.map.specs.declared.Found.{Found}
 use Rattle.map.specs.Answers.{kept}
 use borrow.Author.Needs.{needs}

@@ -5,7 +5,7 @@ use native.Mathlib.Omega.{arith}
 use borrow.Author.Tests.{lt-leb}
 use denote.Ref.{now}
 use lib.ListN.{length}
-use Rattle.map.proofs.TestLaws.{leb-same}
+use Rattle.lists.proofs.Tests.{leb-same}
 use borrow.Author.Needs.{needs}
 use Rattle.map.proofs.fields.has_room.Statement.{statement}
 use Rattle.map.proofs.fields.has_room.Tie as tie

@@ -1,7 +1,7 @@
 -- `map::fields::limited`: below, above, or between its limits. Assumes nothing.
 use native.Mathlib.Omega.{arith}
 use borrow.Author.Tests.{le-leb, lt-leb}
-use Rattle.map.proofs.TestLaws.{takes, leaves, both, not-first, not-second}
+use Rattle.lists.proofs.Tests.{takes, leaves, both, not-first, not-second}
 use Rattle.map.proofs.fields.limited.Statement.{statement}
 use Rattle.map.proofs.fields.limited.Tie as tie
 

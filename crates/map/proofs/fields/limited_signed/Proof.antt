@@ -4,7 +4,8 @@ use lib.IntN.{ℤ}
 use lib.Signed.{leZ}
 use mir.Facts.{toZ-ofZ}
 use Rattle.map.specs.Reading.{good}
-use Rattle.map.proofs.TestLaws.{takes, leaves, both, not-first, not-second, plain}
+use Rattle.map.proofs.SignedLaws.{plain}
+use Rattle.lists.proofs.Tests.{takes, leaves, both, not-first, not-second}
 use Rattle.map.proofs.fields.limited_signed.Statement.{statement}
 use Rattle.map.proofs.fields.limited_signed.Tie as tie
 

@@ -2,7 +2,7 @@
 use mathlib.Core.Path.{sym, ap, _∙_}
 use native.Mathlib.Omega.{arith}
 use borrow.Author.Tests.{lt-ltb, le-ltb}
-use Rattle.map.proofs.TestLaws.{takes, leaves}
+use Rattle.lists.proofs.Tests.{takes, leaves}
 use Rattle.map.proofs.FieldLaws.{bind-bad, bind-good}
 use Rattle.map.specs.Format.{numberField}
 use Rattle.map.specs.Answers.{fieldMeans, fieldValue}

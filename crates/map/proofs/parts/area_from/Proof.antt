@@ -5,7 +5,7 @@ use mathlib.Core.List.{List}
 use native.Mathlib.Omega.{arith}
 use borrow.Author.Tests.{not-true, not-false}
 use denote.Ref.{now}
-use Rattle.map.proofs.TestLaws.{both, not-first, not-second}
+use Rattle.lists.proofs.Tests.{both, not-first, not-second}
 use Rattle.map.proofs.AreaLaws.{counts-population, body-bad, body-good, body-out}
 use Rattle.map.specs.Reading.{mapRead}
 use Rattle.map.specs.Format.{Place, readRows}

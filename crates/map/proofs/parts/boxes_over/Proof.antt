@@ -9,22 +9,23 @@ use lib.ListN.{length, getD}
 use mir.Syntax.{w32}
 use mir.Val.{toZ, ofZ}
 use mir.Facts.{toZ-ofZ}
-use Rattle.map.proofs.TestLaws.{plain-box}
-use Rattle.map.specs.Counting.{flag, boxAt, boxesOver}
-use Rattle.map.specs.Counting as counting
+use Rattle.map.proofs.SignedLaws.{plain-box}
+use Rattle.map.specs.Counting.{boxAt, boxesOver}
+use Rattle.lists.specs.Sums.{flag}
+use Rattle.lists.specs.Sums as sums
 use borrow.Author.Needs.{needs}
 use Rattle.map.proofs.parts.boxes_over.Statement.{statement}
 use Rattle.map.proofs.parts.boxes_over.Tie as tie
 
 abbrev Inv-loop : tie.InvT-loop
 Inv-loop edges latitude longitude n count₀ i₀ count i =
-    (i ≤ n) × (count ≤ i) × (count ≡ counting.count (boxAt edges (toZ w32 latitude) (toZ w32 longitude) n) i)
+    (i ≤ n) × (count ≤ i) × (count ≡ sums.count (boxAt edges (toZ w32 latitude) (toZ w32 longitude) n) i)
 
 abbrev μ-loop : tie.MeasureT-loop
 μ-loop edges latitude longitude n count₀ i₀ count i = n - i
 
 loop-holds : tie.Need-loop-holds Inv-loop μ-loop
-unfolding counting.count
+unfolding sums.count
 loop-holds c = (omega arith, omega arith, refl)
 
 mul-south : tie.Need-mul-south Inv-loop μ-loop
@@ -79,7 +80,7 @@ loop-less : tie.Need-loop-less Inv-loop μ-loop
 loop-less c = search needs
 
 loop-again : tie.Need-loop-again Inv-loop μ-loop
-unfolding counting.count
+unfolding sums.count
 loop-again c =
     let c3 = c .before .before .before in
     let c4 = c3 .before in
@@ -99,7 +100,7 @@ loop-again c =
       omega (arith, c5 .loop-test .taken),
       omega (arith, c .covers .ensures .1, l .inv),
       (λ i. l .inv .2 i + (c .covers .ensures .0 ∙ ap flag plainly) i)
-          ∙ ap (counting.count (boxAt (now (a .edges)) x y n)) (sym (add-one (l .i))),
+          ∙ ap (sums.count (boxAt (now (a .edges)) x y n)) (sym (add-one (l .i))),
     )
 
 returns : tie.Need-returns Inv-loop μ-loop
@@ -112,7 +113,7 @@ returns c =
     let all : l .i ≡ n = omega (arith, l .inv, c .loop-test .left) in
     let x = toZ-ofZ (start .fits .latitude) in
     let y = toZ-ofZ (start .fits .longitude) in (
-      l .inv .2 ∙ (λ k. counting.count (boxAt (now (a .edges)) (x k) (y k) n) (all k)),
+      l .inv .2 ∙ (λ k. sums.count (boxAt (now (a .edges)) (x k) (y k) n) (all k)),
       omega (arith, l .inv, start .pre),
     )
 

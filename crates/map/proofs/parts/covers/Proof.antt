@@ -3,7 +3,7 @@ use mathlib.Core.Path.{ap, _∙_}
 use mathlib.Core.Bool.{_&&_}
 use lib.Signed.{ltZ, leZ}
 use mir.Facts.{toZ-ofZ}
-use Rattle.map.specs.Counting.{flag}
+use Rattle.lists.specs.Sums.{flag}
 use borrow.Author.Needs.{needs}
 use Rattle.map.proofs.parts.covers.Statement.{statement}
 use Rattle.map.proofs.parts.covers.Tie as tie

@@ -1,7 +1,7 @@
 -- `map::parts::place_at`: a cell where the bit stands, else nothing. Assumes nothing.
 use mathlib.Core.Path.{sym, ap, _∙_}
 use native.Mathlib.Omega.{arith}
-use Rattle.map.proofs.TestLaws.{takes, leaves}
+use Rattle.lists.proofs.Tests.{takes, leaves}
 use Rattle.map.proofs.FieldLaws.{bind-bad, bind-good}
 use Rattle.map.specs.Format.{readPlace}
 use Rattle.map.specs.Answers.{cellMeans, cellPeople}

@@ -4,7 +4,7 @@ use mathlib.Core.Path.{sym, ap, _∙_}
 use native.Mathlib.Omega.{arith}
 use denote.Ref.{now}
 use lib.ListN.{length}
-use Rattle.map.proofs.TestLaws.{takes, leaves}
+use Rattle.lists.proofs.Tests.{takes, leaves}
 use Rattle.map.proofs.FieldLaws.{room, field-ends, bit-map-is, bind-bad, bind-good}
 use Rattle.map.specs.Reading.{mapRead}
 use Rattle.map.specs.Format.{bitMapBytes, readRow}

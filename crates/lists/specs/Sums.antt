@@ -1,0 +1,28 @@
+-- Sums, counts and tests over lists: what the definitions of several crates are made of. Assumes nothing.
+use Prim.Native.Nat.{ℕ, zero, suc, _+_}
+use mathlib.Core.Bool.{Bool, false, cond, _||_}
+use mathlib.Core.List.{List, [], _∷_}
+
+-- the sum of what each element adds
+abbrev pub total : {A : Type 0} → (A → ℕ) → List A → ℕ
+total f [] = 0
+total f (a ∷ l) = f a + total f l
+
+-- some element passes a test
+abbrev pub any : {A : Type 0} → (A → Bool) → List A → Bool
+any p [] = false
+any p (a ∷ l) = p a || any p l
+
+-- every element has a property
+abbrev pub All : {A : Type 0} → (A → Type 0) → List A → Type 0
+All P [] = Unit {0}
+All P (a ∷ l) = P a × All P l
+
+-- 1 for true, 0 for false
+abbrev pub flag : Bool → ℕ
+flag b = cond b 1 0
+
+-- how many numbers below n pass a test
+unfoldable pub count : (ℕ → Bool) → (n : ℕ) → ℕ
+count test zero = 0
+count test (suc i) = count test i + flag (test i)
