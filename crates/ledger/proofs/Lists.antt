@@ -18,6 +18,7 @@ use Rattle.lists.specs.Sums.{total}
 use Rattle.register.proofs.Laws.{sign-is, formed-sign, accepted-formed, accepted-new, accepted-room}
 use Rattle.lists.proofs.Tests.{by-test}
 use Rattle.register.proofs.Sums.{
+  same-length,
   same-grant,
   same-cancel,
   same-strike,
@@ -30,16 +31,15 @@ use Rattle.lists.proofs.SumLaws.{length-total}
 use Rattle.ledger.specs.Calls.{Call, grant, cancel, Outcome, Made, calls}
 use Rattle.ledger.specs.Ledger.{linesAfter, ledger}
 use Rattle.ledger.specs.Runs.{Empties, Step, Run, done, step}
-use Rattle.ledger.specs.Right.{Right, AllRight, number, Registers, Sound, ListClaim}
+use Rattle.ledger.specs.Right.{Right, AllRight, number, Sound, Holds, Registers, ListClaim}
 
--- the licences in force are the ledger's lines, in some order
-abbrev Holds : Register → List Licence → Type 0
-Holds r lines = SameLicences (inForce (r .places)) lines
+abbrev Same : Register → List Licence → Type 0
+Same r lines = SameLicences (inForce (r .places)) lines
 
 -- ---- a call keeps the register and the ledger together
 
 grant-keeps : (r : Register) (lines : List Licence) (l : Licence) (g : Granted) →
-    GrantDone r l g → Holds r lines → Holds (g .next) (linesAfter lines (grant l))
+    GrantDone r l g → Same r lines → Same (g .next) (linesAfter lines (grant l))
 grant-keeps r lines l g d same f =
     let e : grantNumber (g .answer) ≡ grantRule lines l = d .number ∙ same-grant (inForce (r .places)) lines same l in
     by-test (eqb (grantRule lines l) 0)
@@ -49,7 +49,7 @@ grant-keeps r lines l g d same f =
     (λ t. simp (t, d .refused (λ z. eqb-false (grantRule lines l) 0 t (sym e ∙ z))) (same f))
 
 cancel-keeps : (r : Register) (lines : List Licence) (s : ℕ) (k : Cancelled) →
-    CancelDone r s k → Holds r lines → Holds (k .next) (linesAfter lines (cancel s))
+    CancelDone r s k → Same r lines → Same (k .next) (linesAfter lines (cancel s))
 cancel-keeps r lines s k d same f =
     let e : cancelNumber (k .answer) ≡ cancelRule lines s = d .number ∙ same-cancel (inForce (r .places)) lines same s in
     by-test (eqb (cancelRule lines s) 0)
@@ -58,14 +58,14 @@ cancel-keeps r lines s k d same f =
     simp (t, d .accepted z, release-strike) (same-strike (inForce (r .places)) lines same s f))
     (λ t. simp (t, d .refused (λ z. eqb-false (cancelRule lines s) 0 t (sym e ∙ z))) (same f))
 
-holds-step : (r : Register) (lines : List Licence) → Holds r lines →
-    (c : Call) (o : Outcome c) (next : Register) → Step r c o next → Holds next (linesAfter lines c)
-holds-step r lines same (grant l) o next d = grant-keeps r lines l (record { next = next; answer = o }) d same
-holds-step r lines same (cancel s) o next d = cancel-keeps r lines s (record { next = next; answer = o }) d same
+same-step : (r : Register) (lines : List Licence) → Same r lines →
+    (c : Call) (o : Outcome c) (next : Register) → Step r c o next → Same next (linesAfter lines c)
+same-step r lines same (grant l) o next d = grant-keeps r lines l (record { next = next; answer = o }) d same
+same-step r lines same (cancel s) o next d = cancel-keeps r lines s (record { next = next; answer = o }) d same
 
 -- an empty register has no licence in force
-empty-holds : (r : Register) → Empties r → Holds r []
-empty-holds r e f = simp e (go limit)
+empty-same : (r : Register) → Empties r → Same r []
+empty-same r e f = simp e (go limit)
   where
     go : (n : ℕ) → total f (inForce (replicate n freePlace)) ≡ 0
     go zero = refl
@@ -73,7 +73,7 @@ empty-holds r e f = simp e (go limit)
 
 -- ---- a call is right, and leaves its register where it is refused
 
-right-step : (r : Register) (lines : List Licence) → Holds r lines →
+right-step : (r : Register) (lines : List Licence) → Same r lines →
     (c : Call) (o : Outcome c) (next : Register) → Step r c o next → Right lines c o
 right-step r lines same (grant l) o next d = d .number ∙ same-grant (inForce (r .places)) lines same l
 right-step r lines same (cancel s) o next d = d .number ∙ same-cancel (inForce (r .places)) lines same s
@@ -81,13 +81,6 @@ right-step r lines same (cancel s) o next d = d .number ∙ same-cancel (inForce
 refused-keeps : (r : Register) (c : Call) (o : Outcome c) (next : Register) → Step r c o next → (number c o ≡ 0 → ⊥) → next ≡ r
 refused-keeps r (grant l) o next d z = d .refused z
 refused-keeps r (cancel s) o next d z = d .refused z
-
-from : {r last : Register} {made : List Made} (lines : List Licence) (run : Run r made last) → Holds r lines →
-    AllRight lines made × Registers lines run
-from lines done same = (tt, same)
-from {r} lines (step {next = next} m s run) same =
-    let h = from (linesAfter lines (m .call)) run (holds-step r lines same (m .call) (m .outcome) next s) in
-    ((right-step r lines same (m .call) (m .outcome) next s, h .0), (same, refused-keeps r (m .call) (m .outcome) next s, h .1))
 
 -- ---- the ledger's own lines
 
@@ -114,15 +107,34 @@ sound-from : (lines : List Licence) (cs : List Call) → Sound lines → Sound (
 sound-from lines [] p = p
 sound-from lines (c ∷ cs) p = sound-from (linesAfter lines c) cs (sound-after lines c p)
 
+-- ---- a run
+
+-- what is sound of the lines is sound of the same licences in another order
+same-sound : (xs ys : List Licence) → SameLicences xs ys → Sound ys → Sound xs
+same-sound xs ys same p =
+    let n = same-length xs ys same in
+    let few = p .few in
+    record { once = λ s. (let e = same (signs s) in let once = p .once s in omega arith); few = omega arith }
+
+from : {r last : Register} {made : List Made} (lines : List Licence) (run : Run r made last) → Same r lines → Sound lines →
+    AllRight lines made × Registers lines run
+from {r} lines done same p = (tt, record { same = same; sound = same-sound (inForce (r .places)) lines same p })
+from {r} lines (step {next = next} m s run) same p =
+    let after = linesAfter lines (m .call) in
+    let h = from after run (same-step r lines same (m .call) (m .outcome) next s) (sound-after lines (m .call) p) in
+    let holds : Holds r lines = record { same = same; sound = same-sound (inForce (r .places)) lines same p } in
+    ((right-step r lines same (m .call) (m .outcome) next s, h .0), (holds, refused-keeps r (m .call) (m .outcome) next s, h .1))
+
 -- ---- the claim
 
 pub list-claim : (first last : Register) (made : List Made) → Empties first → (run : Run first made last) → ListClaim run
 list-claim first last made e run =
-    let h = from [] run (empty-holds first e) in
+    let none : Sound [] = record { once = λ s. zero-le; few = zero-le } in
+    let h = from [] run (empty-same first e) none in
     record {
       right = h .0;
       registers = h .1;
-      sound = λ before later q. sound-from [] (calls before) (record { once = λ s. zero-le; few = zero-le });
+      sound = λ before later q. sound-from [] (calls before) none;
     }
 
 all-at : (lines : List Licence) (before : List Made) (m : Made) (later : List Made) →

@@ -27,19 +27,22 @@ abbrev pub number : (c : Call) → Outcome c → ℕ
 number (grant l) answer = grantNumber answer
 number (cancel s) answer = cancelNumber answer
 
--- "The list of demand 3": before each call and after the last the licences in force are the ledger's lines, in some order; and
--- "Refused by the state": a refused call leaves its register
-abbrev pub Registers : {r last : Register} {made : List Made} → List Licence → Run r made last → Type 0
-Registers lines (done {r = r}) = SameLicences (inForce (r .places)) lines
-Registers lines (step {r = r} {next = next} m s run) =
-    SameLicences (inForce (r .places)) lines ×
-    ((number (m .call) (m .outcome) ≡ 0 → ⊥) → next ≡ r) ×
-    Registers (linesAfter lines (m .call)) run
-
 -- "The list of demand 3": no two lines share a call sign, and there are at most 64
 pub record Sound (lines : List Licence) : Type 0 where
   pub once : OnceEach lines
   pub few : length lines ≤ limit
+
+-- "The list of demand 3": the licences in force are the ledger's lines, in some order
+pub record Holds (r : Register) (lines : List Licence) : Type 0 where
+  pub same : SameLicences (inForce (r .places)) lines
+  pub sound : Sound (inForce (r .places))
+
+-- the registers of a run: before each call and after the last they hold the ledger's lines, and ("Refused by the state") a refused
+-- call leaves its register
+abbrev pub Registers : {r last : Register} {made : List Made} → List Licence → Run r made last → Type 0
+Registers lines (done {r = r}) = Holds r lines
+Registers lines (step {r = r} {next = next} m s run) =
+    Holds r lines × ((number (m .call) (m .outcome) ≡ 0 → ⊥) → next ≡ r) × Registers (linesAfter lines (m .call)) run
 
 -- "The list of demand 3": the claim about a list of calls from an empty register
 pub record ListClaim {first last : Register} {made : List Made} (run : Run first made last) : Type 0 where

@@ -7,7 +7,7 @@ use native.Mathlib.Omega.{arith}
 use borrow.Author.Tests.{eqb-true}
 use lib.Dec.{eqb}
 use lib.IntN.{ℤ}
-use lib.ListN.{length, getD, take, drop}
+use lib.ListN.{length, getD}
 use Rattle.map.specs.Reading.{Read, bad, good, mapRead}
 use Rattle.map.specs.Format.{within, u8Field, Place, population, readRows, readHead, readBody, readArea, readAreas}
 use Rattle.map.specs.Format.{readRest, readMap, Area}
@@ -24,10 +24,11 @@ use Rattle.map.specs.Answers.{
   has,
   located,
   lookUp,
+  between,
   rowsPart,
   partOf,
 }
-use Rattle.map.specs.Accepted.{Within, GridHolds, AreaHolds, Ascending, MapHolds, partAt}
+use Rattle.map.specs.Accepted.{Within, GridHolds, AreaHolds, Ascending, MapHolds}
 use Rattle.lists.specs.Sums.{All}
 use Rattle.map.specs.declared.Area as handed
 use Rattle.map.proofs.Onward.{
@@ -107,7 +108,7 @@ module _ {s : List ℕ} {a : Area} (h : AreaHolds s a) (always : ℕ) (edges : L
   pub counts-in-map : people (readRows s (a .head .columns) (a .head .rows) (a .start)) ≡ good (gridPeople always edges (a .grid)) (a .end)
   counts-in-map = ap people (h .reads)
 
-  pub counts-in-part : people (readRows (partAt s a) (a .head .columns) (a .head .rows) 0)
+  pub counts-in-part : people (readRows (between s (a .start) (a .end)) (a .head .columns) (a .head .rows) 0)
       ≡ good (gridPeople always edges (a .grid)) (a .end - a .start)
   counts-in-part = ap people (h .part)
 
@@ -171,7 +172,7 @@ inside-of {s} l =
 abbrev pub partBy : List ℕ → LookedUp → List ℕ
 partBy s (refused f) = []
 partBy s lacking = []
-partBy s (has b) = take (b .end - b .start) (drop (b .start) s)
+partBy s (has b) = between s (b .start) (b .end)
 
 pub part-is : (s : List ℕ) (n : ℕ) (r : Read (List Area)) → partBy s (lookUp n r) ≡ partOf s n r
 unfolding lookUp partOf

@@ -23,9 +23,8 @@ use Rattle.map.specs.Format.{
   readAreas,
   readRest,
 }
-use Rattle.lists.specs.Sums.{total}
+use Rattle.lists.specs.Sums.{total, count}
 use Rattle.map.specs.Counting.{boxesOver, placePeople, gridPeople}
-use Rattle.lists.specs.Sums.{count}
 use Rattle.map.specs.Answers.{
   summary,
   Located,

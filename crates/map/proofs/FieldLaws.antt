@@ -1,12 +1,13 @@
 -- Laws of fields: a value that was read and tested, by the test of its room. Assumes nothing.
-use Prim.Native.Nat.{ℕ, zero, suc, _+_, _*_, _-_, _≤_}
+use Prim.Native.Nat.{ℕ, zero, suc, _+_, _*_, _-_, _≤_, _<_}
 use mathlib.Core.Path.{_≡_, refl, sym, ap, _∙_}
 use mathlib.Core.List.{List}
 use mathlib.Core.Bool.{Bool, true, false, cond}
 use native.Mathlib.Nat.{zero-add}
-use borrow.Author.Tests.{leb-true}
+use borrow.Author.Tests.{leb-true, leb-false, le-leb, lt-leb}
 use lib.Dec.{leb}
 use lib.ListN.{length}
+use Rattle.lists.proofs.Tests.{takes, leaves}
 use lib.IntN.{ℤ, pos, negsuc, _-ℤ_}
 use mir.Syntax.{w32}
 use mir.Val.{SFits, toZ, ofZ}
@@ -14,28 +15,30 @@ use mir.Facts.{toZ-ofZ}
 use Rattle.map.specs.Reading.{Read, bad, good, bind}
 use Rattle.map.specs.Format.{field, withinZ, clearFrom, bitMapBytes, bitMapField}
 
+-- what the test of a field's room tells
 pub room : {t : Bool} (m n : ℕ) → t ≡ leb m n → t ≡ true → m ≤ n
 room m n e h = leb-true m n (sym e ∙ h)
 
-pub field-ends : {A : Type 0} {t : Bool} (s : List ℕ) (at n : ℕ) (v : A) (ok : Bool)
-    → t ≡ leb (at + n) (length s) → t ≡ false → bad 1 ≡ field s at n v ok
+pub no-room : {t : Bool} (m n : ℕ) → t ≡ leb m n → t ≡ false → n < m
+no-room m n e h = leb-false m n (sym e ∙ h)
+
+pub field-ends : {A : Type 0} (s : List ℕ) (at n : ℕ) (v : A) (ok : Bool) → length s < at + n → bad 1 ≡ field s at n v ok
 unfolding field
-field-ends s at n v ok e h = ap (λ (b : Bool). cond b (cond ok (good v (at + n)) (bad 2)) (bad 1)) (sym h ∙ e)
+field-ends s at n v ok h = leaves (cond ok (good v (at + n)) (bad 2)) (lt-leb (at + n) (length s) h)
 
 -- a value x that was read and tested
-pub field-is : {A : Type 0} {t : Bool} {r : Read A} (s : List ℕ) (at n : ℕ) (P : A → Bool) {x v : A}
-    → r ≡ cond (P x) (good x (at + n)) (bad 2) → x ≡ v → t ≡ leb (at + n) (length s) → t ≡ true → r ≡ field s at n v (P v)
+pub field-is : {A : Type 0} {r : Read A} (s : List ℕ) (at n : ℕ) (P : A → Bool) {x v : A}
+    → r ≡ cond (P x) (good x (at + n)) (bad 2) → x ≡ v → at + n ≤ length s → r ≡ field s at n v (P v)
 unfolding field
-field-is {A} s at n P {x} {v} q d e h =
-    q ∙ ap (λ (y : A). cond (P y) (good y (at + n)) (bad 2)) d
-    ∙ ap (λ (b : Bool). cond b (cond (P v) (good v (at + n)) (bad 2)) (bad 1)) (sym h ∙ e)
+field-is {A} s at n P {x} {v} q d h =
+    q ∙ ap (λ (y : A). cond (P y) (good y (at + n)) (bad 2)) d ∙ takes (bad 1) (le-leb (at + n) (length s) h)
 
 -- a bit map whose bits past the last column were tested
-pub bit-map-is : {t : Bool} {r : Read (Unit {0})} (s : List ℕ) (columns at : ℕ)
+pub bit-map-is : {r : Read (Unit {0})} (s : List ℕ) (columns at : ℕ)
     → r ≡ cond (clearFrom s at columns (bitMapBytes columns * 8 - columns)) (good tt (at + bitMapBytes columns)) (bad 2)
-    → t ≡ leb (at + bitMapBytes columns) (length s) → t ≡ true → r ≡ bitMapField s columns at
-bit-map-is s columns at q e h =
-    field-is s at (bitMapBytes columns) (λ _. clearFrom s at columns (bitMapBytes columns * 8 - columns)) q refl e h
+    → at + bitMapBytes columns ≤ length s → r ≡ bitMapField s columns at
+bit-map-is s columns at q h =
+    field-is s at (bitMapBytes columns) (λ _. clearFrom s at columns (bitMapBytes columns * 8 - columns)) q refl h
 
 -- one reading after another: a fault ends it, and what was read is handed on
 pub bind-bad : {A B : Type 0} {r : Read A} {f : ℕ} (k : A → ℕ → Read B) → bad f ≡ r → bad f ≡ bind r k

@@ -35,6 +35,7 @@ use Rattle.map.specs.Format.{
   readRows,
 }
 use Rattle.lists.proofs.Tests.{takes}
+use Rattle.map.specs.Answers.{between}
 use Rattle.map.proofs.Onward.{
   Gives,
   FieldHas,
@@ -208,11 +209,11 @@ module _ (s : List ℕ) (k m : ℕ) (in-s : k + m ≤ length s) where
 -- rows that are read from `start` to `end` are read in the part between from 0 on
 pub part-reads : (s : List ℕ) (columns rows start end : ℕ) (grid : List (List Place)) → start ≤ end → end ≤ length s
     → readRows s columns rows start ≡ good grid end
-    → readRows (take (end - start) (drop start s)) columns rows 0 ≡ good grid (end - start)
+    → readRows (between s start end) columns rows 0 ≡ good grid (end - start)
 part-reads s columns rows start end grid h l q =
     let m = end - start in
-    let within : start + m ≤ length s = omega arith in
-    let moved : Moved s start m within (good grid end) (readRows (take m (drop start s)) columns rows (start - start)) =
-    subst (λ (r : Read (List (List Place))). Moved s start m within r (readRows (take m (drop start s)) columns rows (start - start))) q
-    (moved-rows s start m within columns rows start (omega arith) (omega arith)) in
-    ap (readRows (take m (drop start s)) columns rows) (omega arith) ∙ moved (omega arith)
+    let inside : start + m ≤ length s = omega arith in
+    let moved : Moved s start m inside (good grid end) (readRows (between s start end) columns rows (start - start)) =
+    subst (λ (r : Read (List (List Place))). Moved s start m inside r (readRows (between s start end) columns rows (start - start))) q
+    (moved-rows s start m inside columns rows start (omega arith) (omega arith)) in
+    ap (readRows (between s start end) columns rows) (omega arith) ∙ moved (omega arith)

@@ -152,10 +152,14 @@ unfoldable pub lookUp : ℕ → Read (List format.Area) → LookedUp
 lookUp n (bad f) = refused f
 lookUp n (good l e) = located (locate n l)
 
+-- the bytes from `start` to before `end`
+abbrev pub between : List ℕ → (start end : ℕ) → List ℕ
+between s start end = take (end - start) (drop start s)
+
 -- "the part of the map that holds that area's rows .. first bit map to last cell"
 abbrev pub rowsPart : List ℕ → Located → List ℕ
 rowsPart s none = []
-rowsPart s (some a) = take (a .end - a .start) (drop (a .start) s)
+rowsPart s (some a) = between s (a .start) (a .end)
 
 -- "the part is empty if the map lacks the number or is refused by 1 to 5"
 unfoldable pub partOf : List ℕ → ℕ → Read (List format.Area) → List ℕ

@@ -27,9 +27,8 @@ use Rattle.map.specs.Format.{
   Place,
   Area,
 }
-use Rattle.lists.specs.Sums.{total}
+use Rattle.lists.specs.Sums.{total, count}
 use Rattle.map.specs.Counting.{boxesOver, placePeople, gridPeople}
-use Rattle.lists.specs.Sums.{count}
 use Rattle.map.specs.Answers.{numberOf, locate, partOf}
 
 -- ---- bytes

@@ -35,6 +35,7 @@ within low high v = leb low v && leb v high
 abbrev pub withinZ : ℤ → ℤ → ℤ → Bool
 withinZ low high v = leZ low v && leZ v high
 
+-- fields of one, two and four bytes
 abbrev pub u8Field : List ℕ → (at low high : ℕ) → Read ℕ
 u8Field s at low high = field s at 1 (getD s at 0) (within low high (getD s at 0))
 
@@ -104,13 +105,14 @@ readRows s columns rows at = many (λ _ a. readRow s columns a) rows 0 at
 
 -- ---- an area
 
+-- what stands before an area's rows
 pub record Head : Type 0 where
   pub number : ℕ
   pub weight : ℕ
   pub rows : ℕ
   pub columns : ℕ
 
--- its rows are the bytes from `start` to before `end`
+-- "Each area": its head and its grid, row by row; its rows are the bytes from `start` to before `end`
 pub record Area : Type 0 where
   pub head : Head
   pub start : ℕ
@@ -129,6 +131,7 @@ weightField s at = u32Field s at 1 65_535
 unfoldable pub sizeField : List ℕ → ℕ → Read ℕ
 sizeField s at = u8Field s at 1 128
 
+-- "Each area then has": number, weight, rows, columns
 unfoldable pub readHead : List ℕ → (before at : ℕ) → Read Head
 readHead s before at =
     bind (numberField s before at) (λ number a.
@@ -137,6 +140,7 @@ readHead s before at =
     bind (sizeField s d) (λ columns e.
     good (record { number = number; weight = weight; rows = rows; columns = columns }) e))))
 
+-- the people that stand at a place
 abbrev pub peopleAt : Place → ℕ
 peopleAt gap = 0
 peopleAt (cell c) = c .people
@@ -153,6 +157,7 @@ readBody s head start =
     (good (record { head = head; start = start; grid = grid; end = e }) e)
     (bad 5))
 
+-- "Each area": its head, then its rows
 unfoldable pub readArea : List ℕ → (before at : ℕ) → Read Area
 readArea s before at = bind (readHead s before at) (λ head start. readBody s head start)
 

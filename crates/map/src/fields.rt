@@ -10,11 +10,13 @@ ghost use Rattle.map.specs.Format.{u16At, u32At, signed32, within, withi
 ghost use Rattle.map.specs.Format.{u8Field, u16Field, u32Field, i32Field, sizeField, numberField};
 ghost use Rattle.map.specs.Answers.{fieldMeans, fieldValue, coordinateMeans};
 
+// A field without a sign.
 pub enum Field {
     Bad(Fault),
     Good(u32, usize),
 }
 
+// A field with a sign.
 pub enum Coordinate {
     Bad(Fault),
     Good(i32, usize),
@@ -31,12 +33,14 @@ pub fn has_room(s: &[u8], at: usize, n: usize) -> bool
     }
 }
 
+// A byte as a wider number.
 pub fn wide(x: u8) -> u32
     ensures { λ r. ⌜ (r ≡ x) × (r < 256) ⌝ }
 {
     x as u32
 }
 
+// The u16 at a position, lower byte first.
 pub fn u16_at(s: &[u8], at: usize) -> u32
     requires { ⌜ at + 2 ≤ length (now s) ⌝ }
     ensures { λ r. ⌜ (r ≡ u16At (now (s .entry)) at) × (r < 65536) ⌝ }
@@ -44,6 +48,7 @@ pub fn u16_at(s: &[u8], at: usize) -> u32
     wide(s[at]) + 256 * wide(s[at + 1])
 }
 
+// The u32 at a position, lower half first.
 pub fn u32_at(s: &[u8], at: usize) -> u32
     requires { ⌜ at + 4 ≤ length (now s) ⌝ }
     ensures { λ r. ⌜ r ≡ u32At (now (s .entry)) at ⌝ }
@@ -75,6 +80,7 @@ fn limited(v: u32, low: u32, high: u32, next: usize) -> Field
     Field::Good(v, next)
 }
 
+// Fields of one, two and four bytes, from low to high.
 pub fn u8_field(s: &[u8], at: usize, low: u32, high: u32) -> Field
     ensures { λ r. ⌜ (fieldMeans r ≡ u8Field (now (s .entry)) at low high) × (fieldValue r ≤ high) ⌝ }
 {
@@ -105,6 +111,7 @@ pub fn u32_field(s: &[u8], at: usize, low: u32, high: u32) -> Field
     }
 }
 
+// A value with a sign that was read, if it is within its limits.
 fn limited_signed(v: i32, low: i32, high: i32, next: usize) -> Coordinate
     ensures { λ r. ⌜ coordinateMeans r ≡ cond (withinZ low high v) (good v next) (bad 2) ⌝ }
 {
@@ -116,6 +123,7 @@ fn limited_signed(v: i32, low: i32, high: i32, next: usize) -> Coordinate
     Coordinate::Bad(Fault::Limit)
 }
 
+// A field of four bytes with a sign.
 pub fn i32_field(s: &[u8], at: usize, low: i32, high: i32) -> Coordinate
     ensures { λ r. ⌜ coordinateMeans r ≡ i32Field (now (s .entry)) at low high ⌝ }
 {
@@ -128,7 +136,7 @@ pub fn i32_field(s: &[u8], at: usize, low: i32, high: i32) -> Coordinate
 
 // Rows, or columns.
 pub fn size_field(s: &[u8], at: usize) -> Field
-    ensures { λ r. ⌜ (fieldMeans r ≡ sizeField (now (s .entry)) at) × (fieldValue r ≤ 128) ⌝ }
+    ensures { λ r. ⌜ (fieldMeans r ≡ sizeField (now (s .entry)) at) × (fieldValue r ≤ 256) ⌝ }
 {
     u8_field(s, at, 1, 128)
 }

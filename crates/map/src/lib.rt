@@ -1,5 +1,5 @@
-// The map (document 01, "The map" and refusals 1 to 5). The ways in are check, look_up and rows_of; the module parts serves
-// the crates above.
+// The map (document 01, "The map" and refusals 1 to 5). The ways in are check, look_up and rows_of; the modules fields and parts
+// serve the crates above.
 pub mod fields;
 pub mod parts;
 
@@ -11,12 +11,17 @@ ghost use Prim.Native.Nat.{_≤_};
 ghost use Rattle.map.specs.Format.{readMap, readRest};
 ghost use Rattle.map.specs.Answers.{faultNumber, checkedNumber, numberOf, foundMeans, lookUp, kept, partOf};
 
-// Why a map is refused: 1 to 5 in this order (specs/Answers.antt, faultNumber).
+// Why a map is refused (document 01, "Refused by the input").
 pub enum Fault {
+    // 1: the map ends before or inside a field.
     Ends,
+    // 2: a field outside its limits, or a bit past the last column.
     Limit,
+    // 3: bytes after the last area.
     Extra,
+    // 4: an area's number is not above the one before.
     Order,
+    // 5: a population of 0 or above 40,000,000.
     Population,
 }
 
@@ -44,6 +49,7 @@ pub enum Found {
     At(Area),
 }
 
+// A cell: its people, and the point that stands for them in hundredths of an arc second.
 pub struct Cell {
     pub people: u32,
     pub latitude: i32,

@@ -16,6 +16,7 @@ ghost use Rattle.lists.specs.Sums.{flag};
 ghost use Rattle.map.specs.Answers.{cellMeans, cellPeople, placeMeans, placeCount, tallyMeans, tallyPeople};
 ghost use Rattle.map.specs.Answers.{headOf, headMeans, headWithin, summary, areaMeans};
 
+// A cell that was read, with the position after it.
 pub enum CellRead {
     Bad(Fault),
     Good(Cell, usize),
@@ -42,16 +43,19 @@ pub struct Head {
     pub columns: usize,
 }
 
+// A head that was read, with the position after it.
 pub enum HeadRead {
     Bad(Fault),
     Good(Head, usize),
 }
 
+// An area that was read; the position after it is its end.
 pub enum AreaRead {
     Bad(Fault),
     Good(Area),
 }
 
+// The cell at a position.
 pub fn cell_at(s: &[u8], at: usize) -> CellRead
     ensures { λ r. ⌜ (cellMeans r ≡ readCell (now (s .entry)) at) × (cellPeople r ≤ 1000000) ⌝ }
 {
@@ -130,7 +134,8 @@ pub fn boxes_over(edges: &[i32], latitude: i32, longitude: i32) -> u32
     count
 }
 
-// One place of a row: its people, counted always times and once more for each box that covers them.
+// One place of a row: its people, counted always times and once more for each box that covers them. That is at most 1,000,000
+// people 128 times, which bounds every sum below.
 fn place_people(s: &[u8], bits: usize, j: usize, at: usize, always: u32, edges: &[i32]) -> Tally
     requires { ⌜ (bits + j / 8 < length (now s)) × (always ≤ 64) × (length (now edges) ≤ 256) ⌝ }
     ensures { λ r. ⌜
@@ -189,6 +194,7 @@ fn cells(s: &[u8], bits: usize, columns: usize, start: usize, always: u32, edges
     Tally::Good(sum, at)
 }
 
+// A row: its bit map, then its cells.
 fn row(s: &[u8], columns: usize, at: usize, always: u32, edges: &[i32]) -> Tally
     requires { ⌜ (columns ≤ 256) × (always ≤ 64) × (length (now edges) ≤ 256) ⌝ }
     ensures { λ r. ⌜
@@ -242,8 +248,9 @@ pub fn people_in(
     Tally::Good(sum, at)
 }
 
+// The head at a position, with a number above the one before.
 fn head_at(s: &[u8], before: u16, at: usize) -> HeadRead
-    ensures { λ r. ⌜ (headMeans r ≡ readHead (now (s .entry)) before at) × headWithin 128 r ⌝ }
+    ensures { λ r. ⌜ (headMeans r ≡ readHead (now (s .entry)) before at) × headWithin 256 r ⌝ }
 {
     match fields::number_field(s, before, at) {
         Field::Bad(f) => HeadRead::Bad(f),
@@ -270,7 +277,7 @@ fn head_at(s: &[u8], before: u16, at: usize) -> HeadRead
 
 // The area whose head was read: its rows from start, and its population.
 fn area_from(s: &[u8], h: Head, start: usize) -> AreaRead
-    requires { ⌜ (h .rows ≤ 128) × (h .columns ≤ 128) ⌝ }
+    requires { ⌜ (h .rows ≤ 256) × (h .columns ≤ 256) ⌝ }
     ensures { λ r. ⌜ areaMeans r ≡ mapRead summary (readBody (now (s .entry)) (headOf h) start) ⌝ }
 {
     let edges = [0i32; 4];

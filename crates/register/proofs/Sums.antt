@@ -8,14 +8,13 @@ use native.Mathlib.Nat.{not-suc-le-zero, zero-add}
 use lib.Dec.{ltb}
 use lib.ListN.{length, getD, set}
 use borrow.Author.Tests.{ltb-true, ltb-false}
-use Rattle.lists.specs.Sums.{flag}
+use Rattle.lists.specs.Sums.{flag, total, any}
 use Rattle.lists.proofs.SumLaws.{length-total, any-total}
 use Rattle.register.specs.declared.Licence.{Licence}
 use Rattle.register.specs.Licences.{freePlace, hasSign, inForce, held, strike, release}
 use Rattle.register.specs.Rules.{grantRule, cancelRule}
 use Rattle.register.specs.Contracts.{Placed}
 use Rattle.register.specs.Sums.{SameLicences, signs, OnceEach, atPlace, passesAt}
-use Rattle.lists.specs.Sums.{total, any}
 use Rattle.register.proofs.Laws.{sign-is, sign-not, is-sign}
 use Rattle.lists.proofs.Tests.{by-test}
 

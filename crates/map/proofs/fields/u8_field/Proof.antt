@@ -1,9 +1,9 @@
 -- `map::fields::u8_field`: the room is tested first, then the limits. Assumes nothing.
-use Prim.Native.Nat.{_+_}
+use Prim.Native.Nat.{_+_, _≤_}
 use native.Mathlib.Omega.{arith}
 use denote.Ref.{now}
 use lib.ListN.{length}
-use Rattle.map.proofs.FieldLaws.{room, field-is, field-ends}
+use Rattle.map.proofs.FieldLaws.{room, no-room, field-is, field-ends}
 use Rattle.map.specs.Format.{within}
 use borrow.Author.Needs.{needs}
 use Rattle.map.proofs.fields.u8_field.Statement.{statement}
@@ -12,41 +12,34 @@ use Rattle.map.proofs.fields.u8_field.Tie as tie
 has-room-requires : tie.Need-has-room-requires
 has-room-requires c κs = search needs
 
+-- what the test of the room tells
+fits : (c : tie.Then1) → let a = c .before .before .before .args in a .at + 1 ≤ length (now (a .s))
+fits c = let a = c .before .before .before .args in room (a .at + 1) (length (now (a .s))) (c .before .has-room .ensures) (c .if1 .taken)
+
 shared-slice-read-wide : tie.Need-shared-slice-read-wide
-shared-slice-read-wide c =
-    let c4 = c .before .before .before .before in
-    let a = c4 .args in
-    omega (arith, room (a .at + 1) (length (now (a .s))) (c .before .before .has-room .ensures) (c .before .if1 .taken))
+shared-slice-read-wide c = omega (arith, fits (c .before))
 
 wide-requires : tie.Need-wide-requires
 wide-requires c κs = search needs
 
 add-limited : tie.Need-add-limited
-add-limited c =
-    let c3 = c .before .before .before in
-    let c5 = c3 .before .before in
-    let a = c5 .args in
-    omega (arith, room (a .at + 1) (length (now (a .s))) (c3 .has-room .ensures) (c .before .before .if1 .taken))
+add-limited c = omega (arith, fits (c .before .before))
 
 limited-requires : tie.Need-limited-requires
 limited-requires c κs = search needs
 
 returns : tie.Need-returns
 returns c =
-    let c3 = c .before .before .before in
-    let c4 = c3 .before in
-    let c6 = c4 .before .before in
-    let a = c6 .args in (
-      field-is (now (a .s)) (a .at) 1 (within (a .low) (a .high)) (c .limited .ensures .0) (c .before .wide .ensures .0)
-          (c4 .has-room .ensures) (c3 .if1 .taken),
-      c .limited .ensures .1,
-    )
+    let a = c .before .before .before .before .before .before .args in
+    let value = c .before .wide .ensures .0 in
+    let inside = fits (c .before .before .before) in
+    (field-is (now (a .s)) (a .at) 1 (within (a .low) (a .high)) (c .limited .ensures .0) value inside, c .limited .ensures .1)
 
 returns-2 : tie.Need-returns-2
 returns-2 c =
-    let c3 = c .before .before .before in
-    let a = c3 .args in
-    (field-ends (now (a .s)) (a .at) 1 _ _ (c .before .has-room .ensures) (c .if1 .left), omega arith)
+    let a = c .before .before .before .args in
+    let short = no-room (a .at + 1) (length (now (a .s))) (c .before .has-room .ensures) (c .if1 .left) in
+    (field-ends (now (a .s)) (a .at) 1 _ _ short, omega arith)
 
 pub u8-field-spec : {M : Type 1} → statement M
 u8-field-spec =

@@ -20,7 +20,7 @@ enum-known-h c = search needs
 area-from-requires : tie.Need-area-from-requires
 area-from-requires c κs =
     let c3 = c .before .before .before in
-    subst (headWithin 128) (c .before .h .given .1) (c3 .head-at .ensures .1)
+    subst (headWithin 256) (c .before .h .given .1) (c3 .head-at .ensures .1)
 
 returns : tie.Need-returns
 unfolding readArea

@@ -1,14 +1,16 @@
 -- `map::parts::area_from`: the rows counted once each, then the limits of the population. Assumes nothing.
 use Prim.Native.Nat.{ℕ}
-use mathlib.Core.Path.{sym, ap, _∙_}
+use mathlib.Core.Path.{_≡_, sym, ap, _∙_}
+use mathlib.Core.Bool.{true}
 use mathlib.Core.List.{List}
 use native.Mathlib.Omega.{arith}
 use borrow.Author.Tests.{not-true, not-false}
 use denote.Ref.{now}
+use lib.Dec.{leb}
 use Rattle.lists.proofs.Tests.{both, not-first, not-second}
 use Rattle.map.proofs.AreaLaws.{counts-population, body-bad, body-good, body-out}
 use Rattle.map.specs.Reading.{mapRead}
-use Rattle.map.specs.Format.{Place, readRows}
+use Rattle.map.specs.Format.{Place, population, readRows}
 use Rattle.map.specs.Answers.{tallyMeans, headOf}
 use borrow.Author.Needs.{needs}
 use Rattle.map.proofs.parts.area_from.Statement.{statement}
@@ -23,6 +25,19 @@ slice-aggregate-people-in c = search needs
 people-in-requires : tie.Need-people-in-requires
 people-in-requires c κs = let p = c .before .before .pre in (omega (arith, p), omega (arith, p), omega arith, omega arith)
 
+-- the walk counted the population
+counted : (c : tie.After-people-in) →
+    let a = c .before .before .before .args in
+    tallyMeans (c .people-in .result) ≡ mapRead population (readRows (now (a .s)) (a .h .columns) (a .h .rows) (a .start))
+counted c =
+    let a = c .before .before .before .args in
+    c .people-in .ensures .0
+    ∙ ap (λ (g : List (List Place) → ℕ). mapRead g (readRows (now (a .s)) (a .h .columns) (a .h .rows) (a .start))) counts-population
+
+-- past the first test there are people
+peopled : (c : tie.Else1) → leb 1 (c .before .before .before .population .given .0 .0 .0) ≡ true
+peopled c = sym (c .before .at-most .ensures) ∙ not-false (c .before .at-most .result) (c .if1 .left)
+
 enum-known-f : tie.Need-enum-known-f
 enum-known-f c = search needs
 
@@ -34,13 +49,9 @@ at-most-requires c κs = search needs
 
 returns : tie.Need-returns
 returns c =
-    let c3 = c .before .before .before in
-    let c5 = c3 .before .before in
-    let c8 = c5 .before .before .before in
-    let a = c8 .args in
-    let read =
-    sym (ap tallyMeans (c3 .population .given .1)) ∙ c5 .people-in .ensures .0
-    ∙ ap (λ (g : List (List Place) → ℕ). mapRead g (readRows (now (a .s)) (a .h .columns) (a .h .rows) (a .start))) counts-population in
+    let c5 = c .before .before .before .before .before in
+    let a = c5 .before .before .before .args in
+    let read = sym (ap tallyMeans (c .before .before .before .population .given .1)) ∙ counted c5 in
     let low = sym (c .before .at-most .ensures) ∙ not-true (c .before .at-most .result) (c .if1 .taken) in
     body-out (now (a .s)) (headOf (a .h)) (a .start) read (not-first _ low)
 
@@ -49,40 +60,25 @@ at-most-requires-2 c κs = search needs
 
 returns-2 : tie.Need-returns-2
 returns-2 c =
-    let c3 = c .before .before .before in
-    let c5 = c3 .before .before in
-    let c7 = c5 .before .before in
-    let c10 = c7 .before .before .before in
-    let a = c10 .args in
-    let read =
-    sym (ap tallyMeans (c5 .population .given .1)) ∙ c7 .people-in .ensures .0
-    ∙ ap (λ (g : List (List Place) → ℕ). mapRead g (readRows (now (a .s)) (a .h .columns) (a .h .rows) (a .start))) counts-population in
-    let low = sym (c3 .at-most .ensures) ∙ not-false (c3 .at-most .result) (c .before .before .if1 .left) in
+    let c7 = c .before .before .before .before .before .before .before in
+    let a = c7 .before .before .before .args in
+    let read = sym (ap tallyMeans (c .before .before .before .before .before .population .given .1)) ∙ counted c7 in
     let high = sym (c .before .at-most2 .ensures) ∙ not-true (c .before .at-most2 .result) (c .if2 .taken) in
-    body-out (now (a .s)) (headOf (a .h)) (a .start) read (not-second low high)
+    body-out (now (a .s)) (headOf (a .h)) (a .start) read (not-second (peopled (c .before .before)) high)
 
 returns-3 : tie.Need-returns-3
 returns-3 c =
     let c3 = c .before .before .before in
-    let c6 = c3 .before .before .before in
-    let a = c6 .args in
-    body-bad (now (a .s)) (headOf (a .h)) (a .start)
-    (sym (ap tallyMeans (c .before .f .given .1)) ∙ c3 .people-in .ensures .0
-    ∙ ap (λ (g : List (List Place) → ℕ). mapRead g (readRows (now (a .s)) (a .h .columns) (a .h .rows) (a .start))) counts-population)
+    let a = c3 .before .before .before .args in
+    body-bad (now (a .s)) (headOf (a .h)) (a .start) (sym (ap tallyMeans (c .before .f .given .1)) ∙ counted c3)
 
 returns-4 : tie.Need-returns-4
 returns-4 c =
-    let c3 = c .before .before .before in
-    let c5 = c3 .before .before in
-    let c7 = c5 .before .before in
-    let c10 = c7 .before .before .before in
-    let a = c10 .args in
-    let read =
-    sym (ap tallyMeans (c5 .population .given .1)) ∙ c7 .people-in .ensures .0
-    ∙ ap (λ (g : List (List Place) → ℕ). mapRead g (readRows (now (a .s)) (a .h .columns) (a .h .rows) (a .start))) counts-population in
-    let low = sym (c3 .at-most .ensures) ∙ not-false (c3 .at-most .result) (c .before .before .if1 .left) in
+    let c7 = c .before .before .before .before .before .before .before in
+    let a = c7 .before .before .before .args in
+    let read = sym (ap tallyMeans (c .before .before .before .before .before .population .given .1)) ∙ counted c7 in
     let high = sym (c .before .at-most2 .ensures) ∙ not-false (c .before .at-most2 .result) (c .if2 .left) in
-    body-good (now (a .s)) (headOf (a .h)) (a .start) read (both low high)
+    body-good (now (a .s)) (headOf (a .h)) (a .start) read (both (peopled (c .before .before)) high)
 
 pub area-from-spec : {M : Type 1} → statement M
 area-from-spec =
