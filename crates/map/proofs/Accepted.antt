@@ -147,7 +147,8 @@ pub looked-up : (s : List ℕ) (n : ℕ) (b : handed.Area) → has b ≡ lookUp 
 unfolding lookUp
 looked-up s n b q = from (readMap s) refl q
   where
-    by : (areas : List Area) (e : ℕ) → readMap s ≡ good areas e → (g : Located) → locate n areas ≡ g → has b ≡ located g → LookedUpIn s n b
+    by : (areas : List Area) (e : ℕ) → readMap s ≡ good areas e
+        → (g : Located) → locate n areas ≡ g → has b ≡ located g → LookedUpIn s n b
     by areas e r none w v = absurd (let z : _≡_ {A = ℕ} 0 1 = cc in omega arith)
     by areas e r (some a) w v =
         let h = locates s n areas (accepted s areas e r .each) a w in

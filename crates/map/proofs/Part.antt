@@ -182,7 +182,8 @@ module _ (s : List ℕ) (k m : ℕ) (in-s : k + m ≤ length s) where
       moved-bind at h (item j at) (item′ j (at - k)) _ _ (o j at l) (f j at (omega arith) h l)
       (λ a e w. onward-bind s e (many item n (j + 1) e) _ (onward-many s item o n (j + 1) e w) (λ x e′ v. (omega arith, v)))
       (λ a e q y z.
-      moved-bind e (omega arith) (many item n (j + 1) e) (many item′ n (j + 1) (e - k)) (λ x e′. good (a ∷ x) e′) (λ x e′. good (a ∷ x) e′)
+      moved-bind e (omega arith) (many item n (j + 1) e) (many item′ n (j + 1) (e - k))
+      (λ x e′. good (a ∷ x) e′) (λ x e′. good (a ∷ x) e′)
       (onward-many s item o n (j + 1) e (omega arith))
       (moved-many item item′ n (j + 1) e (omega arith) (omega arith) o (λ i b u v w. f i b (omega arith) v w))
       (λ x e′ v. (omega arith, v)) (λ x e′ q′ l′ u′ v. refl))
@@ -201,7 +202,8 @@ module _ (s : List ℕ) (k m : ℕ) (in-s : k + m ≤ length s) where
       ends : (bits : Unit {0}) (e : ℕ) → bitMapField s columns at ≡ good bits e → e ≡ at + bitMapBytes columns
       ends bits e q = subst (Gives (FieldHas s at (bitMapBytes columns) tt _)) q (gives-field s at (bitMapBytes columns) tt _) .next
 
-  pub moved-rows : (columns rows at : ℕ) → k ≤ at → at ≤ length s → Moved (readRows s columns rows at) (readRows part columns rows (at - k))
+  pub moved-rows : (columns rows at : ℕ) → k ≤ at → at ≤ length s
+      → Moved (readRows s columns rows at) (readRows part columns rows (at - k))
   moved-rows columns rows at h l =
       moved-many (λ _ a. readRow s columns a) (λ _ a. readRow part columns a) rows 0 at h l
       (λ i a w. onward-row s columns a) (λ i a u v w. moved-row columns a v)

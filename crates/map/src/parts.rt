@@ -79,7 +79,7 @@ pub fn cell_at(s: &[u8], at: usize) -> CellRead
 }
 
 // A column's bit of the bit map that starts at a position.
-pub fn bit(s: &[u8], bits: usize, j: usize) -> bool
+fn bit(s: &[u8], bits: usize, j: usize) -> bool
     requires { ⌜ bits + j / 8 < length (now s) ⌝ }
     ensures { λ r. ⌜ r ≡ bitAt (now (s .entry)) bits j ⌝ }
 {
@@ -116,7 +116,7 @@ fn covers(south: i32, north: i32, west: i32, east: i32, latitude: i32, longitude
 }
 
 // How many boxes cover a point: edges holds the souths of all boxes, then the norths, the wests and the easts.
-pub fn boxes_over(edges: &[i32], latitude: i32, longitude: i32) -> u32
+fn boxes_over(edges: &[i32], latitude: i32, longitude: i32) -> u32
     requires { ⌜ length (now edges) ≤ 256 ⌝ }
     ensures { λ r. ⌜ (r ≡ boxesOver (now (edges .entry)) latitude longitude) × (r ≤ 64) ⌝ }
 {
