@@ -2,6 +2,7 @@
 // by an implementation of its own, the lines that must come out.
 use map::Found;
 use map::fields;
+use map::fields::Field;
 use register::GeoBox;
 use register::Ground;
 use register::Licence;
@@ -68,7 +69,7 @@ fn map_case(s: &[u8]) -> usize
     if s.len() < 4 {
         return s.len();
     }
-    let size = fields::u32_at(s, 0) as usize;
+    let size = u32_at(s, 0) as usize;
     if s.len() - 4 < size {
         return s.len();
     }
@@ -92,7 +93,7 @@ fn look_ups(s: &[u8], map: &[u8]) -> usize
         if s.len() - used < 2 {
             return s.len();
         }
-        look_up(map, (fields::u16_at(s, used) % 65536) as u16);
+        look_up(map, u16_at(s, used));
         used += 2;
         i += 1;
     }
@@ -140,7 +141,7 @@ fn grant_case(s: &[u8], register: Register) -> Played
             register,
         };
     }
-    let call_sign = fields::u32_at(s, 1);
+    let call_sign = u32_at(s, 1);
     let ground = ground_at(s);
     let granted = register.grant(Licence { call_sign, ground });
     let answer = granted.answer;
@@ -156,12 +157,12 @@ fn ground_at(s: &[u8]) -> Ground
     requires { ⌜ 24 ≤ length (now s) ⌝ }
 {
     if s[5] == 0 {
-        return Ground::Area((fields::u16_at(s, 6) % 65536) as u16);
+        return Ground::Area(u16_at(s, 6));
     }
-    let south = fields::signed(fields::u32_at(s, 8));
-    let north = fields::signed(fields::u32_at(s, 12));
-    let west = fields::signed(fields::u32_at(s, 16));
-    let east = fields::signed(fields::u32_at(s, 20));
+    let south = fields::signed(u32_at(s, 8));
+    let north = fields::signed(u32_at(s, 12));
+    let west = fields::signed(u32_at(s, 16));
+    let east = fields::signed(u32_at(s, 20));
     Ground::Box(GeoBox {
         south,
         north,
@@ -181,13 +182,29 @@ fn cancel_case(s: &[u8], register: Register) -> Played
             register,
         };
     }
-    let cancelled = register.cancel(fields::u32_at(s, 1));
+    let cancelled = register.cancel(u32_at(s, 1));
     let answer = cancelled.answer;
     print(b"cancel", answer.number() as u64);
     let next = cancelled.next;
     Played {
         used: 5,
         register: next,
+    }
+}
+
+// The u16 at a position, 0 past the end.
+fn u16_at(s: &[u8], at: usize) -> u16 {
+    match fields::u16_field(s, at, 0, 65535) {
+        Field::Bad(_) => 0,
+        Field::Good(v, _) => (v % 65536) as u16,
+    }
+}
+
+// The u32 at a position, 0 past the end.
+fn u32_at(s: &[u8], at: usize) -> u32 {
+    match fields::u32_field(s, at, 0, 4294967295) {
+        Field::Bad(_) => 0,
+        Field::Good(v, _) => v,
     }
 }
 

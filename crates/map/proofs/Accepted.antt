@@ -7,7 +7,7 @@ use native.Mathlib.Omega.{arith}
 use borrow.Author.Tests.{eqb-true}
 use lib.Dec.{eqb}
 use lib.IntN.{ℤ}
-use lib.ListN.{length, getD}
+use lib.ListN.{length}
 use Rattle.map.specs.Reading.{Read, bad, good, mapRead}
 use Rattle.map.specs.Format.{within, u8Field, Place, population, readRows, readHead, readBody, readArea, readAreas}
 use Rattle.map.specs.Format.{readRest, readMap, Area}
@@ -90,7 +90,7 @@ gives-areas s (suc n) before at =
 gives-map : (s : List ℕ) → Gives (λ l e. MapHolds s l) (readMap s)
 unfolding readMap readRest
 gives-map s =
-    gives-bind (λ n e. Within 1 32 n × (e ≤ length s)) (λ l e. MapHolds s l) (u8Field s 0 1 32) _ (gives-limits s 0 1 (getD s 0 0) 1 32)
+    gives-bind (λ n e. Within 1 32 n × (e ≤ length s)) (λ l e. MapHolds s l) (u8Field s 0 1 32) _ (gives-limits s 0 1 1 32)
     (λ n at q u.
     gives-bind (AreasGiven s n 0) (λ l e. MapHolds s l) (readAreas s n 0 at) _ (gives-areas s n 0 at) (λ l e r y.
     gives-test (λ l e. MapHolds s l) (eqb e (length s)) (good l e) (bad 3)

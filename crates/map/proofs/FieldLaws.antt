@@ -1,19 +1,62 @@
 -- Laws of fields: a value that was read and tested, by the test of its room. Assumes nothing.
-use Prim.Native.Nat.{ℕ, zero, suc, _+_, _*_, _-_, _≤_, _<_}
+use Prim.Native.Nat.{ℕ, zero, suc, _+_, _*_, _-_, _^_, _≤_, _<_}
 use mathlib.Core.Path.{_≡_, refl, sym, ap, _∙_}
 use mathlib.Core.List.{List}
 use mathlib.Core.Bool.{Bool, true, false, cond}
-use native.Mathlib.Nat.{zero-add}
+use native.Mathlib.Omega.{arith}
+use native.Mathlib.Nat.{zero-add, pow-suc}
 use borrow.Author.Tests.{leb-true, leb-false, le-leb, lt-leb}
 use lib.Dec.{leb}
-use lib.ListN.{length}
+use lib.ListN.{length, getD}
 use Rattle.lists.proofs.Tests.{takes, leaves}
-use lib.IntN.{ℤ, pos, negsuc, _-ℤ_}
-use mir.Syntax.{w32}
-use mir.Val.{SFits, toZ, ofZ}
-use mir.Facts.{toZ-ofZ}
+use lib.IntN.{pos, negsuc, _-ℤ_}
 use Rattle.map.specs.Reading.{Read, bad, good, bind}
-use Rattle.map.specs.Format.{field, withinZ, clearFrom, bitMapBytes, bitMapField}
+use Rattle.map.specs.Format.{numberAt, field, clearFrom, bitMapBytes, bitMapField}
+
+-- ---- the bytes of a number, from the last to the first
+
+-- the invariant of the loop, with the bytes from k on read
+pub record Numbered (s : List ℕ) (at n k v : ℕ) : Type 0 where
+  pub inside : k ≤ n
+  pub small : v < 256 ^ (n - k)
+  pub is : v ≡ numberAt s (at + k) (n - k)
+
+pub number-starts : (s : List ℕ) (at n : ℕ) → Numbered s at n n 0
+unfolding numberAt
+number-starts s at n =
+    let none : n - n ≡ 0 = omega arith in
+    record { inside = omega arith; small = rw none (omega arith); is = sym (ap (numberAt s (at + n)) none) }
+
+module _ {s : List ℕ} {at n k v : ℕ} (w : Numbered s at n k v) where
+  pub number-turns : {b : ℕ} → 0 < k → b ≡ getD s (at + (k - 1)) 0 → b < 256 → Numbered s at n (k - 1) (256 * v + b)
+  unfolding numberAt
+  number-turns {b} h e l =
+      let more : n - (k - 1) ≡ suc (n - k) = omega (arith, w .inside) in
+      let next : at + (k - 1) + 1 ≡ at + k = omega arith in
+      record {
+        inside = omega (arith, w .inside);
+        small = rw (more, pow-suc) (omega (arith, w .small));
+        is = rw (more, next) (omega (arith, e, w .is));
+      }
+
+  -- before another byte is read, a number of up to four bytes has at most three
+  pub number-fits : n ≤ 4 → 0 < k → v < 16_777_216
+  number-fits f h = omega (arith, w .small, power (n - k) (omega arith))
+    where
+      power : (m : ℕ) → m ≤ 3 → 256 ^ m ≤ 16_777_216
+      power zero l = omega arith
+      power (suc zero) l = omega arith
+      power (suc (suc zero)) l = omega arith
+      power (suc (suc (suc zero))) l = omega arith
+      power (suc (suc (suc (suc m)))) l = absurd (omega arith)
+
+  pub number-ends : k ≤ 0 → v ≡ numberAt s at n
+  number-ends h =
+      let all : n - k ≡ n = omega arith in
+      let first : at + k ≡ at = omega arith in
+      w .is ∙ (λ i. numberAt s (first i) (all i))
+
+-- ---- a field, by its room and its limits
 
 -- what the test of a field's room tells
 pub room : {t : Bool} (m n : ℕ) → t ≡ leb m n → t ≡ true → m ≤ n
@@ -52,9 +95,3 @@ bind-good {A} k e = ap (λ (x : Read A). bind x k) e
 pub minus-one : (m : ℕ) → negsuc 0 -ℤ pos m ≡ negsuc m
 minus-one zero = refl
 minus-one (suc m) = ap (λ (k : ℕ). negsuc (suc k)) (zero-add m)
-
--- the limits of a signed value that is read back from its bits
-pub plain-limits : {v low high : ℤ} (e : ℕ) → SFits w32 v → SFits w32 low → SFits w32 high
-    → cond (withinZ (toZ w32 (ofZ w32 low)) (toZ w32 (ofZ w32 high)) (toZ w32 (ofZ w32 v))) (good (toZ w32 (ofZ w32 v)) e) (bad 2)
-    ≡ cond (withinZ low high v) (good v e) (bad 2)
-plain-limits e fv fl fh = λ i. cond (withinZ (toZ-ofZ fl i) (toZ-ofZ fh i) (toZ-ofZ fv i)) (good (toZ-ofZ fv i) e) (bad 2)

@@ -7,14 +7,14 @@ use mathlib.Core.Bool.{Bool, true, false, cond}
 use native.Mathlib.Omega.{arith}
 use borrow.Author.Tests.{leb-true, ltb-true}
 use lib.Dec.{leb, ltb}
-use lib.ListN.{length, getD}
+use lib.ListN.{length}
 use Rattle.map.specs.declared.Cell.{Cell}
 use Rattle.map.specs.Reading.{Read, bad, good, bind, many}
 use Rattle.map.specs.Format.{
   field,
   within,
-  u16At,
-  u32At,
+  numberAt,
+  unsignedField,
   u16Field,
   u32Field,
   latitudeField,
@@ -80,10 +80,11 @@ pub within-is : (low high v : ℕ) → within low high v ≡ true → Within low
 within-is low high v e = (leb-true low v (first-of (leb low v) (leb v high) e), leb-true v high (second-of (leb low v) (leb v high) e))
 
 -- a field without a sign is within its limits
-pub gives-limits : (s : List ℕ) (at n v low high : ℕ)
-    → Gives (λ x e. Within low high x × (e ≤ length s)) (field s at n v (within low high v))
-gives-limits s at n v low high =
-    gives-map (FieldHas s at n v (within low high v)) (λ x e. Within low high x × (e ≤ length s)) (field s at n v (within low high v))
+pub gives-limits : (s : List ℕ) (at n low high : ℕ)
+    → Gives (λ x e. Within low high x × (e ≤ length s)) (unsignedField s at n low high)
+gives-limits s at n low high =
+    let v = numberAt s at n in
+    gives-map (FieldHas s at n v (within low high v)) (λ x e. Within low high x × (e ≤ length s)) (unsignedField s at n low high)
     (gives-field s at n v (within low high v))
     (λ x e h. (subst (Within low high) (sym (h .value)) (within-is low high v (h .limits)), h .inside))
 
@@ -148,7 +149,7 @@ gives-many P item f (suc n) j at =
 gives-cell : (s : List ℕ) (at : ℕ) → Gives (λ c e. CellHolds c) (readCell s at)
 unfolding readCell
 gives-cell s at =
-    gives-bind {B = Cell} _ (λ c e. CellHolds c) (u32Field s at 0 1_000_000) _ (gives-limits s at 4 (u32At s at) 0 1_000_000) (λ p a q h.
+    gives-bind {B = Cell} _ (λ c e. CellHolds c) (u32Field s at 0 1_000_000) _ (gives-limits s at 4 0 1_000_000) (λ p a q h.
     gives-bind {B = Cell} _ (λ c e. CellHolds c) (latitudeField s a) _ (gives-field s a 4 _ _) (λ x b q k.
     gives-bind {B = Cell} _ (λ c e. CellHolds c) (longitudeField s b)
     (λ z e. good (record { people = p; latitude = x; longitude = z }) e) (gives-field s b 4 _ _)
@@ -183,18 +184,18 @@ pub record HeadHolds (s : List ℕ) (before : ℕ) (h : Head) (start : ℕ) : Ty
 gives-number : (s : List ℕ) (before at : ℕ) → Gives (λ n e. Within 1 416 n × (before < n)) (numberField s before at)
 unfolding numberField
 gives-number s before at =
-    gives-bind _ (λ n e. Within 1 416 n × (before < n)) (u16Field s at 1 416) _ (gives-limits s at 2 (u16At s at) 1 416)
+    gives-bind _ (λ n e. Within 1 416 n × (before < n)) (u16Field s at 1 416) _ (gives-limits s at 2 1 416)
     (λ n e q h. gives-test (λ n e. Within 1 416 n × (before < n)) (ltb before n) (good n e) (bad 4) (λ t. (h .0, ltb-true before n t)) tt)
 
 gives-size : (s : List ℕ) (at : ℕ) → Gives (λ n e. Within 1 128 n × (e ≤ length s)) (sizeField s at)
 unfolding sizeField
-gives-size s at = gives-limits s at 1 (getD s at 0) 1 128
+gives-size s at = gives-limits s at 1 1 128
 
 pub gives-head : (s : List ℕ) (before at : ℕ) → Gives (HeadHolds s before) (readHead s before at)
 unfolding readHead
 gives-head s before at =
     gives-bind _ (HeadHolds s before) (numberField s before at) _ (gives-number s before at) (λ number a q n.
-    gives-bind _ (HeadHolds s before) (weightField s a) _ (gives-limits s a 4 (u32At s a) 1 65_535) (λ weight b q w.
+    gives-bind _ (HeadHolds s before) (weightField s a) _ (gives-limits s a 4 1 65_535) (λ weight b q w.
     gives-bind _ (HeadHolds s before) (sizeField s b) _ (gives-size s b) (λ rows d q r.
     gives-bind _ (HeadHolds s before) (sizeField s d)
     (λ columns e. good (record { number = number; weight = weight; rows = rows; columns = columns }) e) (gives-size s d)

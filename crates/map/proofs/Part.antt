@@ -8,15 +8,14 @@ use borrow.Author.Tests.{le-leb}
 use lib.Dec.{leb, eqb}
 use lib.ListN.{length, getD, take, drop, length-drop}
 use lib.Seq.{length-take-le, getD-take, getD-drop}
-use lib.IntN.{ℤ, pos, negℤ}
+use lib.IntN.{ℤ}
 use Rattle.map.specs.declared.Cell.{Cell}
 use Rattle.map.specs.Reading.{Read, bad, good, bind, many}
 use Rattle.map.specs.Format.{
   field,
   within,
-  withinZ,
-  u16At,
-  u32At,
+  numberAt,
+  unsignedField,
   signed32,
   u32Field,
   i32Field,
@@ -35,6 +34,7 @@ use Rattle.map.specs.Format.{
   readRows,
 }
 use Rattle.lists.proofs.Tests.{takes}
+use Rattle.units.specs.Coordinates.{isLatitude, isLongitude}
 use Rattle.map.specs.Answers.{between}
 use Rattle.map.proofs.Onward.{
   Gives,
@@ -97,39 +97,36 @@ module _ (s : List ℕ) (k m : ℕ) (in-s : k + m ≤ length s) where
 
   -- ---- cells
 
-  u16-same : (at : ℕ) → k ≤ at → at + 2 ≤ k + m → u16At s at ≡ u16At part (at - k)
-  unfolding u16At
-  u16-same at h l =
-      let q : at - k + 1 ≡ at + 1 - k = omega arith in
-      sym (λ i. byte at h (omega arith) i + 256 * (ap (λ (j : ℕ). getD part j 0) q ∙ byte (at + 1) (omega arith) (omega arith)) i)
+  number-same : (n at : ℕ) → k ≤ at → at + n ≤ k + m → numberAt s at n ≡ numberAt part (at - k) n
+  unfolding numberAt
+  number-same zero at h l = refl
+  number-same (suc n) at h l =
+      let next : at + 1 - k ≡ at - k + 1 = omega arith in
+      let later = number-same n (at + 1) (omega arith) (omega arith) ∙ ap (λ (i : ℕ). numberAt part i n) next in
+      (λ i. sym (byte at h (omega arith)) i + 256 * later i)
 
-  u32-same : (at : ℕ) → k ≤ at → at + 4 ≤ k + m → u32At s at ≡ u32At part (at - k)
-  unfolding u32At
-  u32-same at h l =
-      let q : at + 2 - k ≡ at - k + 2 = omega arith in
-      (λ i. u16-same at h (omega arith) i + 65536 * (u16-same (at + 2) (omega arith) (omega arith) ∙ ap (u16At part) q) i)
+  moved-unsigned : (at n low high : ℕ) → k ≤ at → Moved (unsignedField s at n low high) (unsignedField part (at - k) n low high)
+  moved-unsigned at n low high h =
+      moved-field at n _ _ _ _ h (λ u. (number-same n at h u, ap (within low high) (number-same n at h u)))
 
-  moved-u32 : (at low high : ℕ) → k ≤ at → Moved (u32Field s at low high) (u32Field part (at - k) low high)
-  moved-u32 at low high h = moved-field at 4 _ _ _ _ h (λ u. (u32-same at h u, ap (within low high) (u32-same at h u)))
-
-  moved-i32 : (at : ℕ) (low high : ℤ) → k ≤ at → Moved (i32Field s at low high) (i32Field part (at - k) low high)
-  moved-i32 at low high h =
+  moved-i32 : (at : ℕ) (limits : ℤ → Bool) → k ≤ at → Moved (i32Field s at limits) (i32Field part (at - k) limits)
+  moved-i32 at limits h =
       moved-field at 4 _ _ _ _ h
-      (λ u. (ap signed32 (u32-same at h u), ap (λ (n : ℕ). withinZ low high (signed32 n)) (u32-same at h u)))
+      (λ u. (ap signed32 (number-same 4 at h u), ap (λ (v : ℕ). limits (signed32 v)) (number-same 4 at h u)))
 
   moved-cell : (at : ℕ) → k ≤ at → Moved (readCell s at) (readCell part (at - k))
   unfolding readCell
   moved-cell at h =
       moved-bind {B = Cell} at h (u32Field s at 0 1_000_000) (u32Field part (at - k) 0 1_000_000) _ _
-      (onward-field s at 4 _ _) (moved-u32 at 0 1_000_000 h)
+      (onward-field s at 4 _ _) (moved-unsigned at 4 0 1_000_000 h)
       (λ p a u. latitude-onward p a)
       (λ p a q l u.
       moved-bind {B = Cell} a (omega arith) (latitudeField s a) (latitudeField part (a - k)) _ _
-      (onward-field s a 4 _ _) (moved-i32 a (negℤ (pos 32_400_000)) (pos 32_400_000) (omega arith))
+      (onward-field s a 4 _ _) (moved-i32 a isLatitude (omega arith))
       (λ x b w. longitude-onward p x b)
       (λ x b q′ l′ u′.
       moved-bind {B = Cell} b (omega arith) (longitudeField s b) (longitudeField part (b - k)) (done p x) (done p x)
-      (onward-field s b 4 _ _) (moved-i32 b (negℤ (pos 64_800_000)) (pos 64_800_000) (omega arith))
+      (onward-field s b 4 _ _) (moved-i32 b isLongitude (omega arith))
       (λ y e v. (omega arith, v)) (λ y e q″ l″ u″ v. refl)))
     where
       done : ℕ → ℤ → ℤ → ℕ → Read Cell

@@ -4,11 +4,11 @@ use mathlib.Core.Path.{_≡_}
 use mathlib.Core.List.{List, [], _∷_}
 use mathlib.Core.Bool.{true}
 use lib.ListN.{length}
-use lib.IntN.{pos, negℤ}
 use Rattle.lists.specs.Sums.{All}
+use Rattle.units.specs.Coordinates.{isLatitude, isLongitude}
 use Rattle.map.specs.declared.Cell.{Cell}
 use Rattle.map.specs.Reading.{good}
-use Rattle.map.specs.Format.{Place, gap, cell, population, withinZ, readRows, Area}
+use Rattle.map.specs.Format.{Place, gap, cell, population, readRows, Area}
 use Rattle.map.specs.Answers.{between}
 
 -- between two numbers, both ends included
@@ -18,8 +18,8 @@ Within low high n = (low ≤ n) × (n ≤ high)
 -- "A cell": each field within its limits
 pub record CellHolds (c : Cell) : Type 0 where
   pub people : c .people ≤ 1_000_000
-  pub latitude : withinZ (negℤ (pos 32_400_000)) (pos 32_400_000) (c .latitude) ≡ true
-  pub longitude : withinZ (negℤ (pos 64_800_000)) (pos 64_800_000) (c .longitude) ≡ true
+  pub latitude : isLatitude (c .latitude) ≡ true
+  pub longitude : isLongitude (c .longitude) ≡ true
 
 abbrev pub PlaceHolds : Place → Type 0
 PlaceHolds gap = Unit {0}

@@ -7,8 +7,7 @@ use lib.Dec.{eqb}
 use lib.IntN.{ℤ, pos, negsuc}
 use Rattle.map.specs.Reading.{Read, bad, good, many}
 use Rattle.map.specs.Format.{
-  u16At,
-  u32At,
+  numberAt,
   signed32,
   field,
   readCell,
@@ -153,7 +152,7 @@ allRight [] = true
 allRight (r ∷ rs) = eqb (numberOf (readMap (r .bytes))) (r .number) && allRight rs
 
 checks-right : allRight table ≡ true
-unfolding many u16At u32At signed32 field readCell bitAt readPlace clearFrom readRow
+unfolding many numberAt signed32 field readCell bitAt readPlace clearFrom readRow
     numberField sizeField readHead readBody readArea readAreas readRest readMap
 checks-right = refl
 
@@ -188,7 +187,7 @@ allFound [] = true
 allFound (r ∷ rs) = same (partOf (r .bytes) (r .number) (readMap (r .bytes))) (r .part) && allFound rs
 
 look-ups-right : allFound lookUps ≡ true
-unfolding partOf locate many u16At u32At signed32 field readCell bitAt readPlace clearFrom readRow
+unfolding partOf locate many numberAt signed32 field readCell bitAt readPlace clearFrom readRow
     numberField sizeField readHead readBody readArea readAreas readRest readMap
 look-ups-right = refl
 
@@ -230,6 +229,6 @@ allCounted [] = true
 allCounted (r ∷ rs) = eqb (peopleOf (r .always) (r .edges) (readMap row)) (r .people) && allCounted rs
 
 counts-right : allCounted counted ≡ true
-unfolding count boxesOver placePeople many u16At u32At signed32 field readCell bitAt readPlace clearFrom readRow
+unfolding count boxesOver placePeople many numberAt signed32 field readCell bitAt readPlace clearFrom readRow
     numberField sizeField readHead readBody readArea readAreas readRest readMap
 counts-right = refl

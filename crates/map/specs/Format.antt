@@ -4,21 +4,18 @@ use mathlib.Core.List.{List, [], _∷_}
 use mathlib.Core.Bool.{Bool, true, not, cond, _&&_}
 use lib.ListN.{length, getD}
 use lib.Dec.{ltb, leb, eqb}
-use lib.IntN.{ℤ, pos, negsuc, negℤ}
-use lib.Signed.{leZ}
+use lib.IntN.{ℤ, pos, negsuc}
 use Rattle.lists.specs.Sums.{total}
+use Rattle.units.specs.Coordinates.{isLatitude, isLongitude}
 use Rattle.map.specs.declared.Cell.{Cell}
 use Rattle.map.specs.Reading.{Read, bad, good, bind, many}
 
 -- ---- fields
 
--- "Little-endian bytes": the u16 at a position
-unfoldable pub u16At : List ℕ → ℕ → ℕ
-u16At s at = getD s at 0 + 256 * getD s (at + 1) 0
-
--- the u32 at a position
-unfoldable pub u32At : List ℕ → ℕ → ℕ
-u32At s at = u16At s at + 65_536 * u16At s (at + 2)
+-- "Little-endian bytes": the number in the n bytes at a position
+unfoldable pub numberAt : List ℕ → (at n : ℕ) → ℕ
+numberAt s at zero = 0
+numberAt s at (suc n) = getD s at 0 + 256 * numberAt s (at + 1) n
 
 -- the i32 of these 32 bits: two's complement
 unfoldable pub signed32 : ℕ → ℤ
@@ -28,35 +25,36 @@ signed32 v = cond (ltb v 2_147_483_648) (pos v) (negsuc (4_294_967_295 - v))
 unfoldable pub field : {A : Type 0} → List ℕ → (at n : ℕ) → (value : A) → (inLimits : Bool) → Read A
 field s at n v ok = cond (leb (at + n) (length s)) (cond ok (good v (at + n)) (bad 2)) (bad 1)
 
--- the limits of a field without a sign, and of one with a sign: both ends belong
+-- the limits of a field without a sign: both ends belong
 abbrev pub within : ℕ → ℕ → ℕ → Bool
 within low high v = leb low v && leb v high
 
-abbrev pub withinZ : ℤ → ℤ → ℤ → Bool
-withinZ low high v = leZ low v && leZ v high
+-- a field of n bytes without a sign
+abbrev pub unsignedField : List ℕ → (at n low high : ℕ) → Read ℕ
+unsignedField s at n low high = field s at n (numberAt s at n) (within low high (numberAt s at n))
 
--- fields of one, two and four bytes
 abbrev pub u8Field : List ℕ → (at low high : ℕ) → Read ℕ
-u8Field s at low high = field s at 1 (getD s at 0) (within low high (getD s at 0))
+u8Field s at low high = unsignedField s at 1 low high
 
 abbrev pub u16Field : List ℕ → (at low high : ℕ) → Read ℕ
-u16Field s at low high = field s at 2 (u16At s at) (within low high (u16At s at))
+u16Field s at low high = unsignedField s at 2 low high
 
 abbrev pub u32Field : List ℕ → (at low high : ℕ) → Read ℕ
-u32Field s at low high = field s at 4 (u32At s at) (within low high (u32At s at))
+u32Field s at low high = unsignedField s at 4 low high
 
-abbrev pub i32Field : List ℕ → (at : ℕ) → (low high : ℤ) → Read ℤ
-i32Field s at low high = field s at 4 (signed32 (u32At s at)) (withinZ low high (signed32 (u32At s at)))
+-- a field of four bytes with a sign, by the test of its limits
+abbrev pub i32Field : List ℕ → (at : ℕ) → (ℤ → Bool) → Read ℤ
+i32Field s at limits = field s at 4 (signed32 (numberAt s at 4)) (limits (signed32 (numberAt s at 4)))
 
 -- ---- a cell
 
 -- "latitude, i32, ±32,400,000"
 abbrev pub latitudeField : List ℕ → ℕ → Read ℤ
-latitudeField s at = i32Field s at (negℤ (pos 32_400_000)) (pos 32_400_000)
+latitudeField s at = i32Field s at isLatitude
 
 -- "longitude, i32, ±64,800,000"
 abbrev pub longitudeField : List ℕ → ℕ → Read ℤ
-longitudeField s at = i32Field s at (negℤ (pos 64_800_000)) (pos 64_800_000)
+longitudeField s at = i32Field s at isLongitude
 
 -- "A cell has 12 bytes: people, u32, 0 to 1,000,000; latitude; longitude"
 unfoldable pub readCell : List ℕ → ℕ → Read Cell

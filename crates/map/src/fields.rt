@@ -6,8 +6,9 @@ ghost use lib.ListN.{length};
 ghost use lib.Dec.{leb};
 ghost use mathlib.Core.Bool.{cond};
 ghost use Rattle.map.specs.Reading.{good, bad};
-ghost use Rattle.map.specs.Format.{u16At, u32At, signed32, within, withinZ};
-ghost use Rattle.map.specs.Format.{u8Field, u16Field, u32Field, i32Field, sizeField, numberField};
+ghost use Rattle.units.specs.Coordinates.{withinZ};
+ghost use Rattle.map.specs.Format.{numberAt, signed32, within, unsignedField, u8Field, u16Field, u32Field, i32Field};
+ghost use Rattle.map.specs.Format.{sizeField, numberField};
 ghost use Rattle.map.specs.Answers.{fieldMeans, fieldValue, coordinateMeans};
 
 // A field without a sign.
@@ -40,20 +41,18 @@ pub fn wide(x: u8) -> u32
     x as u32
 }
 
-// The u16 at a position, lower byte first.
-pub fn u16_at(s: &[u8], at: usize) -> u32
-    requires { ⌜ at + 2 ≤ length (now s) ⌝ }
-    ensures { λ r. ⌜ (r ≡ u16At (now (s .entry)) at) × (r < 65536) ⌝ }
+// The number in the n bytes at a position, lowest byte first.
+fn number_at(s: &[u8], at: usize, n: usize) -> u32
+    requires { ⌜ (at + n ≤ length (now s)) × (n ≤ 4) ⌝ }
+    ensures { λ r. ⌜ r ≡ numberAt (now (s .entry)) at n ⌝ }
 {
-    wide(s[at]) + 256 * wide(s[at + 1])
-}
-
-// The u32 at a position, lower half first.
-pub fn u32_at(s: &[u8], at: usize) -> u32
-    requires { ⌜ at + 4 ≤ length (now s) ⌝ }
-    ensures { λ r. ⌜ r ≡ u32At (now (s .entry)) at ⌝ }
-{
-    u16_at(s, at) + 65536 * u16_at(s, at + 2)
+    let mut v: u32 = 0;
+    let mut k = n;
+    while 0 < k {
+        k -= 1;
+        v = 256 * v + wide(s[at + k]);
+    }
+    v
 }
 
 // The number whose two's complement is v.
@@ -80,55 +79,48 @@ fn limited(v: u32, low: u32, high: u32, next: usize) -> Field
     Field::Good(v, next)
 }
 
-// Fields of one, two and four bytes, from low to high.
-pub fn u8_field(s: &[u8], at: usize, low: u32, high: u32) -> Field
-    ensures { λ r. ⌜ (fieldMeans r ≡ u8Field (now (s .entry)) at low high) × (fieldValue r ≤ high) ⌝ }
+// A field of n bytes without a sign.
+fn unsigned_field(s: &[u8], at: usize, n: usize, low: u32, high: u32) -> Field
+    requires { ⌜ n ≤ 4 ⌝ }
+    ensures { λ r. ⌜ (fieldMeans r ≡ unsignedField (now (s .entry)) at n low high) × (fieldValue r ≤ high) ⌝ }
 {
-    if has_room(s, at, 1) {
-        limited(wide(s[at]), low, high, at + 1)
+    if has_room(s, at, n) {
+        limited(number_at(s, at, n), low, high, at + n)
     } else {
         Field::Bad(Fault::Ends)
     }
 }
 
-fn u16_field(s: &[u8], at: usize, low: u32, high: u32) -> Field
+// Fields of one, two and four bytes.
+pub fn u8_field(s: &[u8], at: usize, low: u32, high: u32) -> Field
+    ensures { λ r. ⌜ (fieldMeans r ≡ u8Field (now (s .entry)) at low high) × (fieldValue r ≤ high) ⌝ }
+{
+    unsigned_field(s, at, 1, low, high)
+}
+
+pub fn u16_field(s: &[u8], at: usize, low: u32, high: u32) -> Field
     ensures { λ r. ⌜ (fieldMeans r ≡ u16Field (now (s .entry)) at low high) × (fieldValue r ≤ high) ⌝ }
 {
-    if has_room(s, at, 2) {
-        limited(u16_at(s, at), low, high, at + 2)
-    } else {
-        Field::Bad(Fault::Ends)
-    }
+    unsigned_field(s, at, 2, low, high)
 }
 
 pub fn u32_field(s: &[u8], at: usize, low: u32, high: u32) -> Field
     ensures { λ r. ⌜ (fieldMeans r ≡ u32Field (now (s .entry)) at low high) × (fieldValue r ≤ high) ⌝ }
 {
-    if has_room(s, at, 4) {
-        limited(u32_at(s, at), low, high, at + 4)
-    } else {
-        Field::Bad(Fault::Ends)
-    }
-}
-
-// A value with a sign that was read, if it is within its limits.
-fn limited_signed(v: i32, low: i32, high: i32, next: usize) -> Coordinate
-    ensures { λ r. ⌜ coordinateMeans r ≡ cond (withinZ low high v) (good v next) (bad 2) ⌝ }
-{
-    if low <= v {
-        if v <= high {
-            return Coordinate::Good(v, next);
-        }
-    }
-    Coordinate::Bad(Fault::Limit)
+    unsigned_field(s, at, 4, low, high)
 }
 
 // A field of four bytes with a sign.
 pub fn i32_field(s: &[u8], at: usize, low: i32, high: i32) -> Coordinate
-    ensures { λ r. ⌜ coordinateMeans r ≡ i32Field (now (s .entry)) at low high ⌝ }
+    ensures { λ r. ⌜ coordinateMeans r ≡ i32Field (now (s .entry)) at (withinZ low high) ⌝ }
 {
     if has_room(s, at, 4) {
-        limited_signed(signed(u32_at(s, at)), low, high, at + 4)
+        let v = signed(number_at(s, at, 4));
+        if units::in_range(low, high, v) {
+            Coordinate::Good(v, at + 4)
+        } else {
+            Coordinate::Bad(Fault::Limit)
+        }
     } else {
         Coordinate::Bad(Fault::Ends)
     }

@@ -8,9 +8,6 @@ use lib.IntN.{ℤ, pos, negℤ}
 use Rattle.register.specs.declared.Ground.the-variants.{Area, Box}
 use Rattle.register.specs.declared.Licence.{Licence}
 use Rattle.register.specs.Licences.{
-  inRange,
-  isLatitude,
-  isLongitude,
   boxFormed,
   groundFormed,
   wellFormed,
@@ -74,7 +71,7 @@ grantsRight [] = true
 grantsRight (grants ls l n ∷ rows) = eqb (grantRule ls l) n && grantsRight rows
 
 pub grants-right : grantsRight grantRows ≡ true
-unfolding grantRule wellFormed groundFormed boxFormed isLatitude isLongitude inRange hasSign
+unfolding grantRule wellFormed groundFormed boxFormed hasSign
 grants-right = refl
 
 -- the lines, the call sign to cancel, and the number that comes

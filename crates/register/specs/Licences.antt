@@ -3,25 +3,13 @@ use Prim.Native.Nat.{ℕ}
 use mathlib.Core.Bool.{Bool, cond, not, _&&_}
 use mathlib.Core.List.{List, [], _∷_}
 use lib.Dec.{leb, eqb}
-use lib.IntN.{ℤ, pos, negℤ}
-use lib.Signed.{ltZ, leZ}
+use lib.Signed.{ltZ}
 use Rattle.lists.specs.Sums.{any}
+use Rattle.units.specs.Coordinates.{isLatitude, isLongitude}
 use Rattle.register.specs.declared.GeoBox.{GeoBox}
 use Rattle.register.specs.declared.Ground.{Ground}
 use Rattle.register.specs.declared.Ground.the-variants.{Area, Box}
 use Rattle.register.specs.declared.Licence.{Licence}
-
--- "The map": a range, both ends included
-unfoldable pub inRange : ℤ → ℤ → ℤ → Bool
-inRange low high z = leZ low z && leZ z high
-
--- "The map": latitude, ±32,400,000 hundredths of an arc second
-unfoldable pub isLatitude : ℤ → Bool
-isLatitude z = inRange (negℤ (pos 32_400_000)) (pos 32_400_000) z
-
--- "The map": longitude, ±64,800,000 hundredths of an arc second
-unfoldable pub isLongitude : ℤ → Bool
-isLongitude z = inRange (negℤ (pos 64_800_000)) (pos 64_800_000) z
 
 -- "The register": a box with south < north and west < east, edges in the ranges above
 unfoldable pub boxFormed : GeoBox → Bool

@@ -1,7 +1,7 @@
 // Document 01, "The register": the licences in force, and what a grant and a cancellation do to them.
 ghost use mathlib.Core.Path.{_≡_};
 ghost use lib.ListN.{length};
-ghost use Rattle.register.specs.Licences.{inRange, boxFormed, groundFormed, wellFormed, release};
+ghost use Rattle.register.specs.Licences.{boxFormed, groundFormed, wellFormed, release};
 ghost use Rattle.register.specs.Rules.{grantNumber, cancelNumber, limit};
 ghost use Rattle.register.specs.Contracts.{EmptyDone, GrantDone, CancelDone, FirstAt};
 
@@ -185,13 +185,6 @@ impl Register {
     }
 }
 
-// Whether a coordinate lies in a range, both ends included.
-fn in_range(low: i32, high: i32, z: i32) -> bool
-    ensures { λ r. ⌜ r ≡ inRange low high z ⌝ }
-{
-    (low <= z) & (z <= high)
-}
-
 // Whether a box is well formed.
 fn box_formed(b: GeoBox) -> bool
     ensures { λ r. ⌜ r ≡ boxFormed b ⌝ }
@@ -202,10 +195,10 @@ fn box_formed(b: GeoBox) -> bool
     let east = b.east;
     (south < north)
         & (west < east)
-        & in_range(-32_400_000, 32_400_000, south)
-        & in_range(-32_400_000, 32_400_000, north)
-        & in_range(-64_800_000, 64_800_000, west)
-        & in_range(-64_800_000, 64_800_000, east)
+        & units::in_range(-32_400_000, 32_400_000, south)
+        & units::in_range(-32_400_000, 32_400_000, north)
+        & units::in_range(-64_800_000, 64_800_000, west)
+        & units::in_range(-64_800_000, 64_800_000, east)
 }
 
 // Whether a ground is well formed.

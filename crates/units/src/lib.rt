@@ -1,9 +1,10 @@
-// People and weighted MHz-pops: two units with names of their own (document 01, "Coverage and blocks").
-// Each function adds or compares one of them with itself, so no sum mixes them.
+// People and weighted MHz-pops: two units with names of their own (document 01, "Coverage and blocks"). Each function adds or
+// compares one of them with itself, so no sum mixes them. Coordinates are plain i32, in hundredths of an arc second.
 ghost use mathlib.Core.Path.{_≡_};
-ghost use Prim.Native.Nat.{_+_, _*_, _-_};
+ghost use Prim.Native.Nat.{_+_, _*_};
 ghost use lib.Dec.{leb};
 ghost use Rattle.units.specs.Sums.{capped};
+ghost use Rattle.units.specs.Coordinates.{withinZ};
 
 // A count of people.
 pub struct People(pub u64);
@@ -51,4 +52,11 @@ impl Weighted {
     {
         self.0 <= other.0
     }
+}
+
+// Whether a coordinate lies in a range, both ends included.
+pub fn in_range(low: i32, high: i32, z: i32) -> bool
+    ensures { λ r. ⌜ r ≡ withinZ low high z ⌝ }
+{
+    (low <= z) & (z <= high)
 }

@@ -30,9 +30,6 @@ returns-2 c = search needs
 u16-at-requires : tie.Need-u16-at-requires Inv-loop μ-loop
 u16-at-requires c κs = search needs
 
-cast-look-up : tie.Need-cast-look-up Inv-loop μ-loop
-cast-look-up c = search needs
-
 look-up-requires : tie.Need-look-up-requires Inv-loop μ-loop
 look-up-requires c κs = search needs
 
@@ -63,7 +60,6 @@ look-ups-spec =
     sub-if2
     returns-2
     u16-at-requires
-    cast-look-up
     look-up-requires
     add-used
     add-i

@@ -2,10 +2,10 @@
 use mathlib.Core.Path.{_≡_, ap, _∙_}
 use mathlib.Core.Bool.{_&&_}
 use lib.Signed.{ltZ}
-use lib.IntN.{pos, negℤ}
 use mir.Syntax.{w32}
 use mir.Val.{toZ, ofZ}
-use Rattle.register.specs.Licences.{inRange, isLatitude, isLongitude, boxFormed}
+use Rattle.units.specs.Coordinates.{isLatitude, isLongitude}
+use Rattle.register.specs.Licences.{boxFormed}
 use borrow.Author.Needs.{needs}
 use Rattle.register.proofs.box_formed.Statement.{statement}
 use Rattle.register.proofs.box_formed.Tie as tie
@@ -23,21 +23,19 @@ in-range-requires-4 : tie.Need-in-range-requires-4
 in-range-requires-4 c κs = search needs
 
 returns : tie.Need-returns
-unfolding boxFormed isLatitude isLongitude
+unfolding boxFormed
 returns c =
     let b = c .before .before .before .before .before .before .before .before .args .b in
     let south : toZ w32 (ofZ w32 (b .south)) ≡ b .south = search needs in
     let north : toZ w32 (ofZ w32 (b .north)) ≡ b .north = search needs in
     let west : toZ w32 (ofZ w32 (b .west)) ≡ b .west = search needs in
     let east : toZ w32 (ofZ w32 (b .east)) ≡ b .east = search needs in
-    let latitude = inRange (negℤ (pos 32_400_000)) (pos 32_400_000) in
-    let longitude = inRange (negℤ (pos 64_800_000)) (pos 64_800_000) in
     λ i. ltZ (south i) (north i)
     && ltZ (west i) (east i)
-    && (c .before .before .before .in-range .ensures ∙ ap latitude south) i
-    && (c .before .before .in-range2 .ensures ∙ ap latitude north) i
-    && (c .before .in-range3 .ensures ∙ ap longitude west) i
-    && (c .in-range4 .ensures ∙ ap longitude east) i
+    && (c .before .before .before .in-range .ensures ∙ ap isLatitude south) i
+    && (c .before .before .in-range2 .ensures ∙ ap isLatitude north) i
+    && (c .before .in-range3 .ensures ∙ ap isLongitude west) i
+    && (c .in-range4 .ensures ∙ ap isLongitude east) i
 
 pub box-formed-spec : {M : Type 1} → statement M
 box-formed-spec =

@@ -1,13 +1,11 @@
--- `register::in_range`: the two tests of the definition, on numbers read back from their bits. Assumes nothing.
+-- `units::in_range`: the two tests of the definition, on numbers read back from their bits. Assumes nothing.
 use mathlib.Core.Bool.{_&&_}
 use lib.Signed.{leZ}
 use mir.Facts.{toZ-ofZ}
-use Rattle.register.specs.Licences.{inRange}
-use Rattle.register.proofs.in_range.Statement.{statement}
-use Rattle.register.proofs.in_range.Tie as tie
+use Rattle.units.proofs.in_range.Statement.{statement}
+use Rattle.units.proofs.in_range.Tie as tie
 
 returns : tie.Need-returns
-unfolding inRange
 returns c =
     let f = c .fits in
     λ i. leZ (toZ-ofZ (f .low) i) (toZ-ofZ (f .z) i) && leZ (toZ-ofZ (f .z) i) (toZ-ofZ (f .high) i)
