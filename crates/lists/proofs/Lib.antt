@@ -1,2 +1,3 @@
 pub mod Tests
 pub mod SumLaws
+pub mod FilterLaws

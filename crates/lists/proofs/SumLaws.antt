@@ -1,15 +1,33 @@
 -- Laws of sums over lists. Assumes nothing.
-use Prim.Native.Nat.{_+_}
-use mathlib.Core.Path.{_≡_, refl, sym}
-use mathlib.Core.Bool.{Bool}
-use mathlib.Core.List.{List, [], _∷_}
+use Prim.Native.Nat.{ℕ, zero, suc, _+_, _*_, _≤_, _<_, zero-le}
+use mathlib.Core.Path.{_≡_, refl, sym, ap, _∙_}
+use mathlib.Core.Bool.{Bool, false}
+use mathlib.Core.List.{List, [], _∷_, _++_, map}
 use native.Mathlib.Omega.{arith}
-use native.Mathlib.Nat.{zero-add}
+use native.Mathlib.Nat.{zero-add, mul-add, mul-zero}
 use lib.Dec.{ltb}
-use lib.ListN.{length}
+use lib.ListN.{length, getD, take}
+use lib.Seq.{take-suc}
 use borrow.Author.Tests.{lt-ltb}
-use Rattle.lists.specs.Sums.{total, any, flag}
+use Rattle.lists.specs.Sums.{total, any, All, flag, count}
 use Rattle.lists.proofs.Tests.{by-test}
+
+-- ---- counts over the numbers below n
+
+count-none : (test : ℕ → Bool) (n : ℕ) → ((i : ℕ) → test i ≡ false) → count test n ≡ 0
+unfolding count
+count-none test zero h = refl
+count-none test (suc n) h = λ i. count-none test n h i + flag (h n i)
+
+pub count-same : (f g : ℕ → Bool) (n : ℕ) → ((i : ℕ) → i < n → f i ≡ g i) → count f n ≡ count g n
+unfolding count
+count-same f g zero h = refl
+count-same f g (suc n) h = λ i. count-same f g n (λ k b. h k (omega arith)) i + flag (h n (omega arith) i)
+
+count-first : (test : ℕ → Bool) (n : ℕ) → count test (suc n) ≡ flag (test 0) + count (λ i. test (suc i)) n
+unfolding count
+count-first test zero = omega arith
+count-first test (suc n) = let h = count-first test n in omega arith
 
 module _ {A : Type 0} where
   -- a length is a sum
@@ -24,3 +42,65 @@ module _ {A : Type 0} where
       by-test (p a)
       (λ t. simp t (sym (lt-ltb 0 (1 + total (λ a. flag (p a)) l) (omega arith))))
       (λ t. simp (t, zero-add) (any-total p l))
+
+  -- ---- sums of sums
+
+  pub total-same : {f g : A → ℕ} → ((a : A) → f a ≡ g a) → (l : List A) → total f l ≡ total g l
+  total-same e [] = refl
+  total-same e (a ∷ l) = λ i. e a i + total-same e l i
+
+  pub total-zero : {f : A → ℕ} → ((a : A) → f a ≡ 0) → (l : List A) → total f l ≡ 0
+  total-zero e [] = refl
+  total-zero e (a ∷ l) = λ i. e a i + total-zero e l i
+
+  pub total-add : (f g : A → ℕ) (l : List A) → total (λ a. f a + g a) l ≡ total f l + total g l
+  total-add f g [] = refl
+  total-add f g (a ∷ l) = let h = total-add f g l in omega arith
+
+  pub total-scale : (k : ℕ) (f : A → ℕ) (l : List A) → total (λ a. k * f a) l ≡ k * total f l
+  total-scale k f [] = sym (mul-zero k)
+  total-scale k f (a ∷ l) = ap (λ (n : ℕ). k * f a + n) (total-scale k f l) ∙ sym (mul-add k (f a) (total f l))
+
+  pub total-append : (f : A → ℕ) (l m : List A) → total f (l ++ m) ≡ total f l + total f m
+  total-append f [] m = sym (zero-add (total f m))
+  total-append f (a ∷ l) m = let h = total-append f l m in omega arith
+
+  -- one element more
+  pub total-next : (f : A → ℕ) (l : List A) (i : ℕ) (d : A) → i < length l →
+      total f (take (suc i) l) ≡ total f (take i l) + f (getD l i d)
+  total-next f l i d h =
+      ap (total f) (take-suc l i d h)
+      ∙ total-append f (take i l) (getD l i d ∷ [])
+      ∙ (let x = f (getD l i d) in omega arith)
+
+  -- ---- how many elements pass a test
+
+  -- counted by place, up to where no later place passes
+  pub count-total : (p : A → Bool) (d : A) (l : List A) (n : ℕ) → ((i : ℕ) → n ≤ i → p (getD l i d) ≡ false) →
+      count (λ i. p (getD l i d)) n ≡ total (λ a. flag (p a)) l
+  unfolding count
+  count-total p d [] n h = count-none (λ i. p d) n (λ i. h n (omega arith))
+  count-total p d (a ∷ l) zero h = λ i. flag (sym (h 0 zero-le) i) + count-total p d l zero (λ k b. h (suc k) zero-le) i
+  count-total p d (a ∷ l) (suc n) h =
+      count-first (λ i. p (getD (a ∷ l) i d)) n
+      ∙ ap (λ (m : ℕ). flag (p a) + m) (count-total p d l n (λ k b. h (suc k) (omega arith)))
+
+module _ {A B : Type 0} where
+  -- the sum over two lists, in either order
+  pub exchange : (f : A → B → ℕ) (xs : List A) (ys : List B) →
+      total (λ a. total (f a) ys) xs ≡ total (λ b. total (λ a. f a b) xs) ys
+  exchange f [] ys = sym (total-zero (λ b. refl) ys)
+  exchange f (a ∷ xs) ys =
+      ap (λ (n : ℕ). total (f a) ys + n) (exchange f xs ys) ∙ sym (total-add (f a) (λ b. total (λ a. f a b) xs) ys)
+
+  -- what holds of each element holds of what is made of each
+  pub all-map : (P : A → Type 0) (Q : B → Type 0) (f : A → B) → ((a : A) → P a → Q (f a)) →
+      (l : List A) → All P l → All Q (map f l)
+  all-map P Q f h [] x = tt
+  all-map P Q f h (a ∷ l) x = (h a (x .0), all-map P Q f h l (x .1))
+
+-- what every element has, the one at a place has
+pub all-getD : {A : Type 0} (P : A → Type 0) (l : List A) (i : ℕ) (d : A) → All P l → i < length l → P (getD l i d)
+all-getD P [] i d a h = absurd (omega arith)
+all-getD P (x ∷ l) zero d a h = a .0
+all-getD P (x ∷ l) (suc i) d a h = all-getD P l i d (a .1) (omega arith)

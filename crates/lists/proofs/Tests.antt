@@ -47,3 +47,10 @@ first-of false b e = e
 pub second-of : (a b : Bool) → a && b ≡ true → b ≡ true
 second-of true b e = e
 second-of false b e = not-both e refl
+
+-- two tests agree if each passes where the other does
+pub same-test : (a b : Bool) → (a ≡ true → b ≡ true) → (b ≡ true → a ≡ true) → a ≡ b
+same-test true true f g = refl
+same-test true false f g = sym (f refl)
+same-test false true f g = g refl
+same-test false false f g = refl

@@ -47,10 +47,10 @@ use Rattle.map.proofs.Part.{part-reads}
 
 -- ---- each area
 
-abbrev AreaGiven : List ℕ → ℕ → Area → ℕ → Type 0
+abbrev pub AreaGiven : List ℕ → ℕ → Area → ℕ → Type 0
 AreaGiven s before a e = AreaHolds s a × Ascending before (a ∷ [])
 
-gives-area : (s : List ℕ) (before at : ℕ) → Gives (AreaGiven s before) (readArea s before at)
+pub gives-area : (s : List ℕ) (before at : ℕ) → Gives (AreaGiven s before) (readArea s before at)
 unfolding readArea readBody
 gives-area s before at =
     gives-bind (HeadHolds s before) (AreaGiven s before) (readHead s before at) _ (gives-head s before at) (λ h start q k.

@@ -3,4 +3,5 @@ pub mod Licences
 pub mod Rules
 pub mod Sums
 pub mod Contracts
+pub mod Grounds
 pub mod Examples

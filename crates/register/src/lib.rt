@@ -1,9 +1,14 @@
-// Document 01, "The register": the licences in force, and what a grant and a cancellation do to them.
+// Document 01, "The register": the licences in force, and what a grant and a cancellation do to them. naming and boxes hand out
+// what the crates above count people by.
 ghost use mathlib.Core.Path.{_≡_};
+ghost use Prim.Native.Nat.{_≤_};
 ghost use lib.ListN.{length};
-ghost use Rattle.register.specs.Licences.{boxFormed, groundFormed, wellFormed, release};
+ghost use Rattle.lists.specs.Sums.{total, flag};
+ghost use Rattle.register.specs.Licences.{boxFormed, groundFormed, wellFormed, inForce, release};
 ghost use Rattle.register.specs.Rules.{grantNumber, cancelNumber, limit};
+ghost use Rattle.register.specs.Sums.{atPlace, passesAt};
 ghost use Rattle.register.specs.Contracts.{EmptyDone, GrantDone, CancelDone, FirstAt};
+ghost use Rattle.register.specs.Grounds.{names, hasBox, placeBox, LastBox, EdgesDone, BoxesDone};
 
 // A box of latitudes and longitudes, in hundredths of an arc second. Degrees south and west are negative.
 pub struct GeoBox {
@@ -54,6 +59,13 @@ pub struct Granted {
 pub struct Cancelled {
     pub next: Register,
     pub answer: CancelAnswer,
+}
+
+// The boxes of the licences in force, one for each of the first count places: the souths at 0, the norths at count, the wests at
+// 2 * count and the easts at 3 * count. A place without a box in force has one with all edges 0, which covers nothing.
+pub struct Boxes {
+    pub count: usize,
+    pub edges: [i32; 256],
 }
 
 impl GrantAnswer {
@@ -154,6 +166,67 @@ impl Register {
         }
     }
 
+    // How many licences in force have the area of a number as their ground.
+    pub fn naming(self, number: u16) -> u32
+        ensures { λ r. ⌜ (r ≡ total (λ l. flag (names number l)) (inForce (self .places))) × (r ≤ 64) ⌝ }
+    {
+        let mut count: u32 = 0;
+        let mut k = 0;
+        while k < Self::LIMIT {
+            let l = self.places[k];
+            count += names_area(l, number);
+            k += 1;
+        }
+        count
+    }
+
+    // The boxes of the licences in force, up to the last place that has one, so that few licences cost few tests for a cell.
+    pub fn boxes(self) -> Boxes
+        ensures { λ r. ⌜ BoxesDone (self .places) r ⌝ }
+    {
+        let count = self.last_box();
+        let edges = self.edges(count);
+        Boxes { count, edges }
+    }
+
+    // One more than the last place with a box in force, 0 where no place has one.
+    fn last_box(self) -> usize
+        ensures { λ r. ⌜ LastBox (self .places) r ⌝ }
+    {
+        let mut count = Self::LIMIT;
+        while 0 < count {
+            let l = self.places[count - 1];
+            if box_in_force(l) {
+                return count;
+            }
+            count -= 1;
+        }
+        count
+    }
+
+    // The edges of the boxes at the first count places.
+    fn edges(self, count: usize) -> [i32; 256]
+        requires { ⌜ count ≤ 64 ⌝ }
+        ensures { λ r. ⌜ EdgesDone (self .places) count r ⌝ }
+    {
+        let mut edges = [0i32; 256];
+        let mut i = 0;
+        while i < count {
+            let l = self.places[i];
+            let b = place_box(l);
+            let south = b.south;
+            let north = b.north;
+            let west = b.west;
+            let east = b.east;
+            edges[i] = south;
+            edges[count + i] = north;
+            edges[2 * count + i] = west;
+            edges[3 * count + i] = east;
+            i += 1;
+        }
+        edges
+    }
+
     // The first place that has the call sign, or LIMIT where none has.
     fn place_of(self, call_sign: u32) -> usize
         ensures { λ r. ⌜ (length (self .places) ≡ limit) × FirstAt (self .places) «call_sign» r ⌝ }
@@ -220,4 +293,52 @@ fn well_formed(l: Licence) -> bool
     }
     let g = l.ground;
     ground_formed(g)
+}
+
+// 1 if what stands at a place is in force and has the area of a number as its ground, else 0.
+fn names_area(l: Licence, number: u16) -> u32
+    ensures { λ r. ⌜ (r ≡ atPlace (λ l. flag (names number l)) l) × (r ≤ 1) ⌝ }
+{
+    if l.call_sign == 0 {
+        return 0;
+    }
+    let g = l.ground;
+    match g {
+        Ground::Area(n) => if n == number { 1 } else { 0 },
+        Ground::Box(_) => 0,
+    }
+}
+
+// Whether what stands at a place is in force and has a box as its ground.
+fn box_in_force(l: Licence) -> bool
+    ensures { λ r. ⌜ r ≡ passesAt hasBox l ⌝ }
+{
+    if l.call_sign == 0 {
+        return false;
+    }
+    let g = l.ground;
+    match g {
+        Ground::Area(_) => false,
+        Ground::Box(_) => true,
+    }
+}
+
+// The box of what stands at a place: all edges 0 where no box is in force.
+fn place_box(l: Licence) -> GeoBox
+    ensures { λ r. ⌜ r ≡ placeBox l ⌝ }
+{
+    let none = GeoBox {
+        south: 0,
+        north: 0,
+        west: 0,
+        east: 0,
+    };
+    if l.call_sign == 0 {
+        return none;
+    }
+    let g = l.ground;
+    match g {
+        Ground::Area(_) => none,
+        Ground::Box(b) => b,
+    }
 }

@@ -1,5 +1,6 @@
-// People and weighted MHz-pops: two units with names of their own (document 01, "Coverage and blocks"). Each function adds or
-// compares one of them with itself, so no sum mixes them. Coordinates are plain i32, in hundredths of an arc second.
+// People and weighted MHz-pops: two units with names of their own (document 01, "Coverage and blocks"). Sums and tests take one
+// of them with itself, so no sum mixes them. The one bridge is People::weighted: people × weight × MHz are weighted MHz-pops.
+// Coordinates are plain i32, in hundredths of an arc second.
 ghost use mathlib.Core.Path.{_≡_};
 ghost use Prim.Native.Nat.{_+_, _*_};
 ghost use lib.Dec.{leb};
@@ -19,12 +20,29 @@ fn sum(a: u64, b: u64) -> u64
     if b <= u64::MAX - a { a + b } else { u64::MAX }
 }
 
+// The product of two counts, which stops at the largest u64. The division tells before the multiplication whether it fits.
+fn product(a: u64, b: u64) -> u64
+    ensures { λ r. ⌜ r ≡ capped (a * b) ⌝ }
+{
+    if a == 0 {
+        return 0;
+    }
+    if b <= u64::MAX / a { a * b } else { u64::MAX }
+}
+
 impl People {
     // The people of a cell, counted so many times.
     pub fn counted(people: u32, times: u32) -> Self
         ensures { λ r. ⌜ r .0 ≡ people * times ⌝ }
     {
         People((people as u64) * (times as u64))
+    }
+
+    // The weighted MHz-pops of these people over so many MHz at a weight, which stop at the largest u64.
+    pub fn weighted(self, mhz: u32, weight: u32) -> Weighted
+        ensures { λ r. ⌜ r .0 ≡ capped (mhz * weight * self .0) ⌝ }
+    {
+        Weighted(product((mhz as u64) * (weight as u64), self.0))
     }
 
     pub fn plus(self, other: Self) -> Self
