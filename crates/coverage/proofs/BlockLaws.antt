@@ -1,0 +1,117 @@
+-- Laws of the blocks of an area. Assumes nothing.
+use Prim.Native.Nat.{ℕ, _+_, _*_, _/_, _≤_, _<_}
+use mathlib.Core.Path.{_≡_, sym, _∙_}
+use mathlib.Core.Bool.{true, false}
+use mathlib.Core.List.{List}
+use native.Mathlib.Omega.{arith}
+use native.Mathlib.Nat.{add-zero, mod-lt, mul-le-mul, mul-pos}
+use lib.Dec.{ltb}
+use borrow.Author.Tests.{lt-ltb, le-ltb, le-leb, lt-leb}
+use Rattle.units.specs.Sums.{capped}
+use Rattle.units.proofs.Laws.{exact}
+use Rattle.lists.specs.Sums.{All}
+use Rattle.lists.proofs.Tests.{by-test}
+use Rattle.lists.proofs.SumLaws.{all-map}
+use Rattle.map.specs.Reading.{good}
+use Rattle.map.specs.Format.{Area, readMap}
+use Rattle.map.specs.Accepted.{AreaHolds}
+use Rattle.map.proofs.Accepted.{accepted}
+use Rattle.register.specs.declared.Licence.{Licence}
+use Rattle.coverage.specs.declared.Holding.{Holding}
+use Rattle.coverage.specs.declared.AreaBlocks.{AreaBlocks}
+use Rattle.coverage.specs.Cover.{holdingOf, holdingsOf}
+use Rattle.coverage.specs.Blocks.{remainder, roundsUp, wholeBlocks, partial, value, size, blocksOf}
+use Rattle.coverage.specs.Limits.{Limits}
+
+-- ---- the holdings of an accepted map are within the limits
+
+pub limits-of : (ls : List Licence) {s : List ℕ} (a : Area) → AreaHolds s a → Limits (holdingOf ls a)
+limits-of ls a h = record { heavy = h .weight .0; light = h .weight .1; peopled = h .peopled .0; small = h .peopled .1 }
+
+pub limits-in : (ls : List Licence) (s : List ℕ) (areas : List Area) (e : ℕ) → readMap s ≡ good areas e
+    → All Limits (holdingsOf ls areas)
+limits-in ls s areas e q = all-map (AreaHolds s) Limits (holdingOf ls) (limits-of ls) areas (accepted s areas e q .each)
+
+-- ---- the blocks of an area within the limits
+
+module _ {h : Holding} (w : Limits h) where
+  -- the remainder is below two populations
+  pub remainder-small : remainder h < 2 * h .population .0
+  unfolding remainder
+  remainder-small = mod-lt (h .covered .0) (omega (arith, w .peopled))
+
+  value-small : value h ≤ 262140000000000
+  unfolding value
+  value-small =
+      let r : remainder h ≤ 80000000 = omega (arith, remainder-small, w .small) in
+      let m : 50 * h .weight ≤ 3276750 = omega (arith, w .light) in
+      omega (arith, mul-le-mul m r)
+
+  size-small : size h ≤ 262140000000000
+  unfolding size
+  size-small =
+      let m : 100 * h .weight ≤ 6553500 = omega (arith, w .light) in
+      omega (arith, mul-le-mul m (w .small))
+
+  size-some : 0 < size h
+  unfolding size
+  size-some =
+      let m : 0 < 100 * h .weight = omega (arith, w .heavy) in
+      mul-pos m (w .peopled)
+
+  -- a partial area has a size, and no other has one
+  pub partial-sized : partial h ≡ ltb 0 (blocksOf h .size .0)
+  unfolding blocksOf
+  partial-sized = by-test (partial h) (λ t. simp t (sym (lt-ltb 0 (size h) size-some))) (λ t. simp t)
+
+  -- v and M are at most what the largest area has
+  pub value-bounded : blocksOf h .value .0 ≤ 262140000000000
+  unfolding blocksOf
+  value-bounded = by-test (partial h) (λ t. simp t value-small) (λ t. simp t (omega arith))
+
+  pub size-bounded : blocksOf h .size .0 ≤ 262140000000000
+  unfolding blocksOf
+  size-bounded = by-test (partial h) (λ t. simp t size-small) (λ t. simp t (omega arith))
+
+  -- what the two products give
+  pub value-exact : {v : ℕ} → v ≡ capped (50 * h .weight * remainder h) → v ≡ value h
+  unfolding value
+  value-exact e = e ∙ exact (50 * h .weight * remainder h) (omega (arith, value-small))
+
+  pub size-exact : {m : ℕ} → m ≡ capped (100 * h .weight * h .population .0) → m ≡ size h
+  unfolding size
+  size-exact e = e ∙ exact (100 * h .weight * h .population .0) (omega (arith, size-small))
+
+-- ---- the blocks by the two tests
+
+abbrev pub blocksBy : (whole value size : ℕ) → AreaBlocks
+blocksBy w v m = record { whole = w; value = record { 0 = v }; size = record { 0 = m } }
+
+module _ (h : Holding) where
+  abbrev quotient : ℕ
+  quotient = h .covered .0 / (2 * h .population .0)
+
+  up : 99 * h .population .0 ≤ 50 * remainder h → roundsUp h ≡ true
+  unfolding roundsUp
+  up t = le-leb (99 * h .population .0) (50 * remainder h) t
+
+  not-up : 50 * remainder h < 99 * h .population .0 → roundsUp h ≡ false
+  unfolding roundsUp
+  not-up t = lt-leb (99 * h .population .0) (50 * remainder h) t
+
+  -- "one more whole block and nothing partial"
+  pub blocks-up : 99 * h .population .0 ≤ 50 * remainder h → blocksBy (quotient + 1) 0 0 ≡ blocksOf h
+  unfolding blocksOf wholeBlocks partial
+  blocks-up t = simp (up t)
+
+  -- nothing remains
+  pub blocks-even : 50 * remainder h < 99 * h .population .0 → remainder h ≡ 0 → blocksBy quotient 0 0 ≡ blocksOf h
+  unfolding blocksOf wholeBlocks partial
+  blocks-even t e = simp (not-up t, le-ltb 0 (remainder h) (omega arith), add-zero)
+
+  -- "the area is partial, with value v .. and size M"
+  pub blocks-part : {v m : ℕ} → 50 * remainder h < 99 * h .population .0 → (remainder h ≡ 0 → ⊥) → v ≡ value h → m ≡ size h
+      → blocksBy quotient v m ≡ blocksOf h
+  unfolding blocksOf wholeBlocks partial
+  blocks-part t n ev em =
+      simp (not-up t, lt-ltb 0 (remainder h) (omega arith), add-zero) (λ i. blocksBy quotient (ev i) (em i))

@@ -1,0 +1,45 @@
+-- Document 01, "Coverage and blocks": which cells a licence covers, and c of an area. Assumes nothing.
+use Prim.Native.Nat.{ℕ}
+use mathlib.Core.Bool.{Bool, cond}
+use mathlib.Core.List.{List, map}
+use lib.Dec.{eqb}
+use Rattle.lists.specs.Sums.{total}
+use Rattle.map.specs.declared.Cell.{Cell}
+use Rattle.map.specs.Format.{Place, gap, cell, Area, population}
+use Rattle.map.specs.Counting.{boxCovers}
+use Rattle.register.specs.declared.Ground.{Ground}
+use Rattle.register.specs.declared.Ground.the-variants as ground
+use Rattle.register.specs.declared.Licence.{Licence}
+use Rattle.coverage.specs.declared.Holding.{Holding}
+
+-- "A box covers a cell if ..": by its edges, wherever the cell is. "A PEA ground covers every cell of that area", and no other:
+-- `number` is the number of the cell's area
+abbrev pub covers : Ground → (number : ℕ) → Cell → Bool
+covers (ground.Area n) number c = eqb n number
+covers (ground.Box b) number c = boxCovers (b .south) (b .north) (b .west) (b .east) (c .latitude) (c .longitude)
+
+-- the people at a place of the area, if the licence covers it
+abbrev pub peopleUnder : Licence → (number : ℕ) → Place → ℕ
+peopleUnder l number gap = 0
+peopleUnder l number (cell c) = cond (covers (l .ground) number c) (c .people) 0
+
+-- the people in the cells of an area that one licence covers
+abbrev pub coveredBy : Area → Licence → ℕ
+coveredBy a l = total (total (peopleUnder l (a .head .number))) (a .grid)
+
+-- "For an area, c is the sum, over licences in force, of the people in covered cells"
+abbrev pub coverage : List Licence → Area → ℕ
+coverage licences a = total (coveredBy a) licences
+
+-- an area with its c: what its blocks and the proposal are made of
+abbrev pub holdingOf : List Licence → Area → Holding
+holdingOf licences a = record {
+  number = a .head .number;
+  weight = a .head .weight;
+  population = record { 0 = population (a .grid) };
+  covered = record { 0 = coverage licences a };
+}
+
+-- the areas of a map, each with its c
+abbrev pub holdingsOf : List Licence → List Area → List Holding
+holdingsOf licences areas = map (holdingOf licences) areas

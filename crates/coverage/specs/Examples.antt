@@ -1,0 +1,151 @@
+-- Coverage and blocks evaluated on tables of cases. A wrong row is refused. Assumes nothing.
+use Prim.Native.Nat.{ℕ}
+use mathlib.Core.Path.{_≡_, refl}
+use mathlib.Core.Bool.{Bool, true, false, _&&_}
+use mathlib.Core.List.{List, [], _∷_}
+use lib.Dec.{eqb}
+use lib.IntN.{ℤ, pos, negsuc}
+use Rattle.map.specs.Reading.{Read, bad, good}
+use Rattle.map.specs.Format.{Place, gap, cell, Area}
+use Rattle.map.specs.Answers.{locate}
+use Rattle.register.specs.declared.Ground.the-variants as ground
+use Rattle.register.specs.declared.Licence.{Licence}
+use Rattle.coverage.specs.declared.Holding.{Holding}
+use Rattle.coverage.specs.declared.AreaBlocks.{AreaBlocks}
+use Rattle.coverage.specs.Cover.{coverage}
+use Rattle.coverage.specs.Blocks.{remainder, roundsUp, wholeBlocks, partial, value, size, blocksOf}
+use Rattle.coverage.specs.Answers.{Answer, refused, answers, coverageAt, blocksAt}
+
+-- ---- blocks
+
+-- population, weight and c, then whole blocks, v and M
+pub data BlocksRow : Type 0 where
+  holds : (population weight covered whole value size : ℕ) → BlocksRow
+
+abbrev pub blocksRows : List BlocksRow
+blocksRows =
+    -- 50 × r is 99 × pop at c 198, and below it at c 197
+    holds 100 1 198 1 0 0 ∷
+    holds 100 1 197 0 9_850 10_000 ∷
+    holds 100 1 199 1 0 0 ∷
+    -- no remainder, and the least one
+    holds 100 1 0 0 0 0 ∷
+    holds 100 1 1 0 50 10_000 ∷
+    holds 100 1 200 1 0 0 ∷
+    holds 100 1 201 1 50 10_000 ∷
+    -- above a whole block
+    holds 100 1 397 1 9_850 10_000 ∷
+    holds 100 1 398 2 0 0 ∷
+    -- the weight counts in v and M only
+    holds 100 3 197 0 29_550 30_000 ∷
+    holds 100 3 198 1 0 0 ∷
+    -- the largest area
+    holds 40_000_000 65_535 79_199_999 0 259_518_596_723_250 262_140_000_000_000 ∷
+    holds 40_000_000 65_535 79_200_000 1 0 0 ∷ []
+
+abbrev held : (population weight covered : ℕ) → Holding
+held p w c = record { number = 5; weight = w; population = record { 0 = p }; covered = record { 0 = c } }
+
+abbrev sameBlocks : AreaBlocks → (whole value size : ℕ) → Bool
+sameBlocks b n v m = eqb (b .whole) n && eqb (b .value .0) v && eqb (b .size .0) m
+
+abbrev pub blocksRight : List BlocksRow → Bool
+blocksRight [] = true
+blocksRight (holds p w c n v m ∷ rows) = sameBlocks (blocksOf (held p w c)) n v m && blocksRight rows
+
+pub blocks-right : blocksRight blocksRows ≡ true
+unfolding blocksOf wholeBlocks partial roundsUp value size remainder
+blocks-right = refl
+
+-- ---- coverage of one area: number 5, two rows and two columns, one place without a cell
+
+abbrev at : (people : ℕ) → (latitude longitude : ℤ) → Place
+at p x y = cell (record { people = p; latitude = x; longitude = y })
+
+abbrev five : Area
+five = record {
+  head = record { number = 5; weight = 1; rows = 2; columns = 2 };
+  start = 9;
+  grid =
+      (at 10 (pos 0) (pos 0) ∷ at 4 (pos 0) (pos 1) ∷ []) ∷
+      (gap ∷ at 3 (negsuc 0) (pos 1) ∷ []) ∷ [];
+  end = 47;
+}
+
+-- a licence for an area, and one for a box by its south, north, west and east
+abbrev ofArea : ℕ → Licence
+ofArea n = record { «call_sign» = 1; ground = ground.Area n }
+
+abbrev ofBox : (south north west east : ℤ) → Licence
+ofBox s n w e = record { «call_sign» = 1; ground = ground.Box (record { south = s; north = n; west = w; east = e }) }
+
+-- the licences in force, and c
+pub data CoverRow : Type 0 where
+  covered : List Licence → ℕ → CoverRow
+
+abbrev pub coverRows : List CoverRow
+coverRows =
+    covered [] 0 ∷
+    -- every cell, and the first row
+    covered (ofBox (negsuc 0) (pos 1) (pos 0) (pos 2) ∷ []) 17 ∷
+    covered (ofBox (pos 0) (pos 1) (pos 0) (pos 2) ∷ []) 14 ∷
+    -- a cell on the south edge is covered, one on the north edge is not
+    covered (ofBox (negsuc 0) (pos 0) (pos 0) (pos 2) ∷ []) 3 ∷
+    covered (ofBox (pos 1) (pos 2) (pos 0) (pos 2) ∷ []) 0 ∷
+    -- a cell on the west edge is covered, one on the east edge is not
+    covered (ofBox (pos 0) (pos 1) (pos 1) (pos 2) ∷ []) 4 ∷
+    covered (ofBox (pos 0) (pos 1) (pos 0) (pos 1) ∷ []) 10 ∷
+    covered (ofBox (pos 0) (pos 1) (negsuc 4) (pos 0) ∷ []) 0 ∷
+    -- two adjoining boxes share no cell
+    covered (ofBox (pos 0) (pos 1) (pos 0) (pos 1) ∷ ofBox (pos 0) (pos 1) (pos 1) (pos 2) ∷ []) 14 ∷
+    -- two licences on the same cell count it twice
+    covered (ofBox (pos 0) (pos 1) (pos 0) (pos 1) ∷ ofBox (pos 0) (pos 1) (pos 0) (pos 1) ∷ []) 20 ∷
+    covered (ofBox (pos 0) (pos 1) (pos 0) (pos 1) ∷ ofBox (pos 0) (pos 1) (pos 0) (pos 2) ∷ []) 24 ∷
+    -- the area's own number, another's, and an area with a box
+    covered (ofArea 5 ∷ []) 17 ∷
+    covered (ofArea 6 ∷ []) 0 ∷
+    covered (ofArea 5 ∷ ofArea 5 ∷ []) 34 ∷
+    covered (ofArea 6 ∷ ofArea 5 ∷ ofBox (pos 0) (pos 1) (pos 0) (pos 1) ∷ []) 27 ∷ []
+
+abbrev pub coverRight : List CoverRow → Bool
+coverRight [] = true
+coverRight (covered ls c ∷ rows) = eqb (coverage ls five) c && coverRight rows
+
+pub cover-right : coverRight coverRows ≡ true
+cover-right = refl
+
+-- ---- answers: the area's number, a number that the map lacks, and a map that is refused
+
+abbrev sameCover : Answer ℕ → Answer ℕ → Bool
+sameCover (refused m) (refused n) = eqb m n
+sameCover (refused m) (answers c) = false
+sameCover (answers c) (refused n) = false
+sameCover (answers c) (answers d) = eqb c d
+
+abbrev blocksAre : Answer AreaBlocks → (whole value size : ℕ) → Bool
+blocksAre (refused m) n v s = false
+blocksAre (answers b) n v s = sameBlocks b n v s
+
+abbrev refusedBy : Answer AreaBlocks → ℕ → Bool
+refusedBy (refused m) n = eqb m n
+refusedBy (answers b) n = false
+
+abbrev onMap : Read (List Area)
+onMap = good (five ∷ []) 47
+
+-- a licence for the area and one for a cell of 10 people: c 27 of 17 people
+abbrev lines : List Licence
+lines = ofArea 5 ∷ ofBox (pos 0) (pos 1) (pos 0) (pos 1) ∷ []
+
+abbrev answersRight : Bool
+answersRight =
+    sameCover (coverageAt 5 lines onMap) (answers 27) &&
+    sameCover (coverageAt 6 lines onMap) (answers 0) &&
+    sameCover (coverageAt 5 lines (bad 2)) (refused 2) &&
+    blocksAre (blocksAt 5 lines onMap) 0 1_350 1_700 &&
+    blocksAre (blocksAt 6 lines onMap) 0 0 0 &&
+    refusedBy (blocksAt 5 lines (bad 4)) 4
+
+pub answers-right : answersRight ≡ true
+unfolding coverageAt blocksAt locate blocksOf wholeBlocks partial roundsUp value size remainder
+answers-right = refl
