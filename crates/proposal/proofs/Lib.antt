@@ -1,0 +1,9 @@
+pub mod HandCounts
+pub mod ChoiceLaws
+pub mod RankLaws
+pub mod BestLaws
+pub mod GatherLaws
+pub mod SettleLaws
+pub mod Theorems
+pub mod AnswerLaws
+pub mod MapLaws

@@ -1,0 +1,8 @@
+-- Document 01, "The proposal": what the contract of `propose` and the theorems cite, and (Code) what the inner functions come to.
+pub mod Choices
+pub mod Best
+pub mod Answer
+pub mod Holdings
+pub mod Contracts
+pub mod Demand
+pub mod Code

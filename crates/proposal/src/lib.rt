@@ -1,0 +1,305 @@
+// Document 01, "The proposal": which partial areas a carrier gets whole, and the one that it gets in part. The way in is propose.
+use coverage::Holding;
+use map::Checked;
+use map::Fault;
+use register::Register;
+use search::Answer;
+use units::Weighted;
+ghost use mathlib.Core.Path.{_≡_};
+ghost use mathlib.Core.Bool.{cond};
+ghost use Prim.Native.Nat.{_-_, _/_, _≤_};
+ghost use lib.ListN.{length, take};
+ghost use Rattle.map.specs.Format.{readMap};
+ghost use Rattle.register.specs.Licences.{inForce};
+ghost use Rattle.search.specs.Choice.{cap};
+ghost use Rattle.search.specs.Proposal.{Limits, propose};
+ghost use Rattle.proposal.specs.Answer.{getsBy, getsNothing, refusedBy, proposal, proposalOn};
+ghost use Rattle.proposal.specs.Contracts.{getsMeans, refusalNumber, kindNumber, Answers};
+ghost use Rattle.proposal.specs.Code.{Bounded, Gathered, markOf, outcomeOf, Settled};
+
+// What an area gets: nothing, whole, rounded up, or a share with its amount.
+pub enum Gets {
+    Nothing,
+    Whole,
+    RoundedUp,
+    Share(Weighted),
+}
+
+// An area of the map: its number, its whole blocks and what it gets.
+pub struct AreaAnswer {
+    pub number: u16,
+    pub blocks: u64,
+    pub gets: Gets,
+}
+
+// Why there is no proposal, or its kind.
+pub enum Outcome {
+    // 1 to 5: the map is refused.
+    Refused(Fault),
+    // 12: more than 20 partial areas.
+    TooMany,
+    // Kind 1.
+    Exact,
+    // Kind 2.
+    RoundedUp,
+    // Kind 3.
+    OnePart,
+}
+
+// The answer: T, white space, the tied count and the map's areas, which are the first count of areas. A refusal has nothing of these.
+pub struct Proposal {
+    pub outcome: Outcome,
+    pub target: Weighted,
+    pub white_space: Weighted,
+    pub tied: usize,
+    pub count: usize,
+    pub areas: [AreaAnswer; 32],
+}
+
+// The partial areas: the first count of sizes and weights, and the sum of their values. Sizes are weighted MHz-pops; they are plain
+// numbers because the search is lent slices of them.
+pub struct Partials {
+    pub count: usize,
+    pub target: Weighted,
+    pub sizes: [u64; 32],
+    pub weights: [u64; 32],
+}
+
+impl AreaAnswer {
+    // What stands at the entries past the areas of a map.
+    const NONE: AreaAnswer = AreaAnswer {
+        number: 0,
+        blocks: 0,
+        gets: Gets::Nothing,
+    };
+}
+
+impl Outcome {
+    // Document 01's number of the refusal: 0 where there is a proposal.
+    pub fn refusal(self) -> u32
+        ensures { λ r. ⌜ r ≡ refusalNumber self ⌝ }
+    {
+        match self {
+            Outcome::Refused(f) => f.number(),
+            Outcome::TooMany => 12,
+            Outcome::Exact => 0,
+            Outcome::RoundedUp => 0,
+            Outcome::OnePart => 0,
+        }
+    }
+
+    // Document 01's number of the kind: 0 where there is no proposal.
+    pub fn kind(self) -> u32
+        ensures { λ r. ⌜ r ≡ kindNumber self ⌝ }
+    {
+        match self {
+            Outcome::Refused(_) => 0,
+            Outcome::TooMany => 0,
+            Outcome::Exact => 1,
+            Outcome::RoundedUp => 2,
+            Outcome::OnePart => 3,
+        }
+    }
+
+    // The outcome of a kind.
+    fn of_kind(kind: u64) -> Self
+        ensures { λ r. ⌜ r ≡ outcomeOf kind ⌝ }
+    {
+        match kind {
+            1 => Outcome::Exact,
+            2 => Outcome::RoundedUp,
+            _ => Outcome::OnePart,
+        }
+    }
+}
+
+// The answer where there is no proposal.
+fn refused(outcome: Outcome) -> Proposal
+    ensures { λ r. ⌜ (kindNumber outcome ≡ 0 → Answers (refusedBy (refusalNumber outcome)) r) ⌝ }
+{
+    Proposal {
+        outcome,
+        target: Weighted(0),
+        white_space: Weighted(0),
+        tied: 0,
+        count: 0,
+        areas: [AreaAnswer::NONE; 32],
+    }
+}
+
+// The search, with tables of its own.
+fn offer(sizes: &[u64], weights: &[u64], target: u64, draw: u32) -> Answer
+    requires { ⌜ Limits (now sizes) (now weights) ⌝ }
+    ensures { λ r. ⌜ r ≡ propose target (now (sizes .entry)) (now (weights .entry)) draw ⌝ }
+{
+    let mut white = [0u64; 21];
+    let mut least = [0u32; 21];
+    let n = sizes.len() + 1;
+    search::propose(
+        sizes,
+        weights,
+        target,
+        draw,
+        &mut white[..n],
+        &mut least[..n],
+    )
+}
+
+// The share of the partial area at an entry, or 0 if there is none.
+fn share_at(sizes: &[u64], entry: usize, white: u64) -> u64
+    requires { ⌜ (entry ≤ length (now sizes)) × (white ≤ cap (now sizes) entry) ⌝ }
+    ensures { λ r. ⌜ r ≡ cap (now (sizes .entry)) entry - white ⌝ }
+{
+    if entry == 0 {
+        return 0;
+    }
+    sizes[entry - 1] - white
+}
+
+// What an area gets, by the entry and the set number that are left: it is the partial one at entry 1, and whole at an odd number.
+fn gets_at(partial: bool, kind: u64, share: u64, entry: usize, number: u32) -> Gets
+    ensures { λ r. ⌜ getsMeans r ≡ cond partial (getsBy kind share (markOf entry number)) getsNothing ⌝ }
+{
+    if !partial {
+        return Gets::Nothing;
+    }
+    if entry == 1 {
+        if kind == 2 {
+            return Gets::RoundedUp;
+        }
+        return Gets::Share(Weighted(share));
+    }
+    if number % 2 == 1 {
+        return Gets::Whole;
+    }
+    Gets::Nothing
+}
+
+// The entry that is left for the areas after this one.
+fn entry_after(partial: bool, entry: usize) -> usize
+    ensures { λ r. ⌜ r ≡ cond partial (entry - 1) entry ⌝ }
+{
+    if partial {
+        if entry == 0 {
+            return 0;
+        }
+        return entry - 1;
+    }
+    entry
+}
+
+// The set number that is left for the areas after this one.
+fn number_after(partial: bool, number: u32) -> u32
+    ensures { λ r. ⌜ r ≡ cond partial (number / 2) number ⌝ }
+{
+    if partial {
+        return number / 2;
+    }
+    number
+}
+
+// What is read of the partial areas, one area a turn.
+fn gather(areas: [Holding; 32], count: usize) -> Partials
+    requires { ⌜ Bounded areas count ⌝ }
+    ensures { λ r. ⌜ Gathered (take count areas) r ⌝ }
+{
+    let mut sizes = [0u64; 32];
+    let mut weights = [0u64; 32];
+    let mut n: usize = 0;
+    let mut target = Weighted(0);
+    let mut i: usize = 0;
+    while i < count {
+        let a = areas[i];
+        let b = coverage::parts::blocks_of(a);
+        let size = b.size;
+        if 0 < size.0 {
+            sizes[n] = size.0;
+            weights[n] = a.weight as u64;
+            target = target.plus(b.value);
+            n += 1;
+        }
+        i += 1;
+    }
+    Partials {
+        count: n,
+        target,
+        sizes,
+        weights,
+    }
+}
+
+// What each area is given, one area a turn: the entry and the set number that the search found are used up from their first place.
+fn settle(
+    areas: [Holding; 32],
+    count: usize,
+    kind: u64,
+    share: u64,
+    entry: usize,
+    number: u32,
+) -> [AreaAnswer; 32]
+    requires { ⌜ Bounded areas count ⌝ }
+    ensures { λ r. ⌜ Settled (take count areas) kind share entry number r ⌝ }
+{
+    let mut given = [AreaAnswer::NONE; 32];
+    let mut e = entry;
+    let mut s = number;
+    let mut i: usize = 0;
+    while i < count {
+        let a = areas[i];
+        let b = coverage::parts::blocks_of(a);
+        let size = b.size;
+        let partial = 0 < size.0;
+        let gets = gets_at(partial, kind, share, e, s);
+        given[i] = AreaAnswer {
+            number: a.number,
+            blocks: b.whole,
+            gets,
+        };
+        e = entry_after(partial, e);
+        s = number_after(partial, s);
+        i += 1;
+    }
+    given
+}
+
+// The proposal for the areas of a map, each with its c.
+fn propose_from(areas: [Holding; 32], count: usize, draw: u32) -> Proposal
+    requires { ⌜ Bounded areas count ⌝ }
+    ensures { λ r. ⌜ Answers (proposal (take count areas) draw) r ⌝ }
+{
+    let partials = gather(areas, count);
+    let n = partials.count;
+    if 20 < n {
+        return refused(Outcome::TooMany);
+    }
+    let sizes = partials.sizes;
+    let weights = partials.weights;
+    let target = partials.target;
+    let found = offer(&sizes[..n], &weights[..n], target.0, draw);
+    let share = share_at(&sizes[..n], found.entry, found.white);
+    let outcome = Outcome::of_kind(found.kind);
+    let given = settle(areas, count, found.kind, share, found.entry, found.number);
+    Proposal {
+        outcome,
+        target,
+        white_space: Weighted(found.white),
+        tied: found.tied,
+        count,
+        areas: given,
+    }
+}
+
+// The proposal for a map and the licences in force, with a draw among tied areas.
+pub fn propose(map: &[u8], register: Register, draw: u32) -> Proposal
+    ensures { λ r. ⌜ Answers (proposalOn (readMap (now (map .entry))) (inForce (register .places)) draw) r ⌝ }
+{
+    let held = coverage::parts::holdings_in(map, register);
+    let checked = held.checked;
+    match checked {
+        Checked::Refused(f) => refused(Outcome::Refused(f)),
+        Checked::Accepted => {
+            let areas = held.areas;
+            propose_from(areas, held.count, draw)
+        }
+    }
+}
