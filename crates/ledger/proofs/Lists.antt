@@ -1,11 +1,15 @@
--- Document 01, "The list of demand 3": the claim about every list of grants and cancellations from an empty register. Assumes nothing.
-use Prim.Native.Nat.{ℕ, zero, suc, _+_, zero-le}
-use mathlib.Core.Path.{_≡_, refl, sym, ap, _∙_}
+-- Document 01, "The list of demand 3": the claim about every list of grants, cancellations and proposals from an empty register, over
+-- one accepted map. Assumes nothing.
+use Prim.Native.Nat.{ℕ, zero, suc, _+_, _≤_, zero-le}
+use mathlib.Core.Path.{_≡_, refl, sym, ap, subst, _∙_}
+use mathlib.Core.Bool.{cond}
 use mathlib.Core.List.{List, [], _∷_, _++_}
 use native.Mathlib.Omega.{arith}
-use lib.Dec.{eqb}
-use lib.ListN.{replicate}
-use borrow.Author.Tests.{eqb-true, eqb-false}
+use lib.Dec.{ltb, eqb}
+use lib.ListN.{length, replicate}
+use borrow.Author.Tests.{eqb-true, eqb-false, ltb-false}
+use Rattle.map.specs.Reading.{good}
+use Rattle.map.specs.Format.{Area, readMap}
 use Rattle.register.specs.declared.Licence.{Licence}
 use Rattle.register.specs.declared.Register.{Register}
 use Rattle.register.specs.declared.Granted.{Granted}
@@ -28,10 +32,19 @@ use Rattle.register.proofs.Sums.{
   strike-le,
 }
 use Rattle.lists.proofs.SumLaws.{length-total}
-use Rattle.ledger.specs.Calls.{Call, grant, cancel, Outcome, Made, calls}
+use Rattle.coverage.specs.declared.Holding.{Holding}
+use Rattle.coverage.specs.Cover.{holdingsOf}
+use Rattle.coverage.proofs.SameLaws.{same-holdings}
+use Rattle.proposal.specs.declared.Proposal as proposed
+use Rattle.proposal.specs.Choices.{partials}
+use Rattle.proposal.specs.Answer.{Proposal, refusedBy, answerOf, proposal, proposalOn}
+use Rattle.proposal.specs.Contracts.{refusalNumber, means, Answers}
+use Rattle.proposal.specs.Demand as demand
+use Rattle.proposal.proofs.Theorems.{right}
+use Rattle.ledger.specs.Calls.{Call, grant, cancel, propose, Outcome, Made, calls}
 use Rattle.ledger.specs.Ledger.{linesAfter, ledger}
 use Rattle.ledger.specs.Runs.{Empties, Step, Run, done, step}
-use Rattle.ledger.specs.Right.{Right, AllRight, number, Sound, Holds, Registers, ListClaim}
+use Rattle.ledger.specs.Right.{ProposalRight, Right, AllRight, number, Sound, Holds, Registers, ListClaim}
 
 abbrev Same : Register → List Licence → Type 0
 Same r lines = SameLicences (inForce (r .places)) lines
@@ -58,10 +71,11 @@ cancel-keeps r lines s k d same f =
     simp (t, d .accepted z, release-strike) (same-strike (inForce (r .places)) lines same s f))
     (λ t. simp (t, d .refused (λ z. eqb-false (cancelRule lines s) 0 t (sym e ∙ z))) (same f))
 
-same-step : (r : Register) (lines : List Licence) → Same r lines →
-    (c : Call) (o : Outcome c) (next : Register) → Step r c o next → Same next (linesAfter lines c)
-same-step r lines same (grant l) o next d = grant-keeps r lines l (record { next = next; answer = o }) d same
-same-step r lines same (cancel s) o next d = cancel-keeps r lines s (record { next = next; answer = o }) d same
+same-step : (map : List ℕ) (r : Register) (lines : List Licence) → Same r lines →
+    (c : Call) (o : Outcome c) (next : Register) → Step map r c o next → Same next (linesAfter lines c)
+same-step map r lines same (grant l) o next d = grant-keeps r lines l (record { next = next; answer = o }) d same
+same-step map r lines same (cancel s) o next d = cancel-keeps r lines s (record { next = next; answer = o }) d same
+same-step map r lines same (propose draw) o next d = subst (λ (x : Register). Same x lines) (sym (d .1)) same
 
 -- an empty register has no licence in force
 empty-same : (r : Register) → Empties r → Same r []
@@ -71,16 +85,57 @@ empty-same r e f = simp e (go limit)
     go zero = refl
     go (suc n) = simp (sign-is 0 freePlace refl) (go n)
 
+-- ---- a proposal counts just the ledger's lines
+
+-- the number that comes, by the definition
+refused-by : (areas : List Holding) (draw : ℕ) → proposal areas draw .refused ≡ cond (ltb 20 (length (partials areas))) 12 0
+unfolding proposal refusedBy answerOf
+refused-by areas draw = by-test (ltb 20 (length (partials areas))) (λ t. simp t) (λ t. simp t)
+
+-- a proposal that is not refused has at most 20 partial areas
+few-partial : (areas : List Holding) (draw : ℕ) → proposal areas draw .refused ≡ 0 → length (partials areas) ≤ 20
+few-partial areas draw z =
+    by-test (ltb 20 (length (partials areas)))
+    (λ t. absurd (let e : 12 ≡ 0 = sym (simp t at (refused-by areas draw)) ∙ z in omega arith))
+    (λ t. ltb-false 20 (length (partials areas)) t)
+
+proposal-right : (areas : List Area) (lines : List Licence) (draw : ℕ) (p : proposed.Proposal) →
+    Answers (proposal (holdingsOf lines areas) draw) p → ProposalRight areas lines draw p
+unfolding means
+proposal-right areas lines draw p a =
+    let n : refusalNumber (p .outcome) ≡ proposal (holdingsOf lines areas) draw .refused = ap (λ (x : Proposal). x .refused) (a .meaning) in
+    record {
+      answer = a;
+      refused = n ∙ refused-by (holdingsOf lines areas) draw;
+      right = λ z. subst (demand.Right (holdingsOf lines areas)) (sym (a .meaning))
+          (right (holdingsOf lines areas) draw (few-partial (holdingsOf lines areas) draw (sym n ∙ z)));
+    }
+
+-- the map is accepted, and the register holds the ledger's lines
+on-lines : (map : List ℕ) (areas : List Area) (e : ℕ) → readMap map ≡ good areas e →
+    (r : Register) (lines : List Licence) → Same r lines → (draw : ℕ) →
+    proposalOn (readMap map) (inForce (r .places)) draw ≡ proposal (holdingsOf lines areas) draw
+unfolding proposalOn
+on-lines map areas e reads r lines same draw =
+    ap (λ m. proposalOn m (inForce (r .places)) draw) reads
+    ∙ ap (λ hs. proposal hs draw) (same-holdings (inForce (r .places)) lines same areas)
+
 -- ---- a call is right, and leaves its register where it is refused
 
-right-step : (r : Register) (lines : List Licence) → Same r lines →
-    (c : Call) (o : Outcome c) (next : Register) → Step r c o next → Right lines c o
-right-step r lines same (grant l) o next d = d .number ∙ same-grant (inForce (r .places)) lines same l
-right-step r lines same (cancel s) o next d = d .number ∙ same-cancel (inForce (r .places)) lines same s
+module _ (map : List ℕ) (areas : List Area) (e : ℕ) (reads : readMap map ≡ good areas e) where
+  right-step : (r : Register) (lines : List Licence) → Same r lines →
+      (c : Call) (o : Outcome c) (next : Register) → Step map r c o next → Right areas lines c o
+  right-step r lines same (grant l) o next d = d .number ∙ same-grant (inForce (r .places)) lines same l
+  right-step r lines same (cancel s) o next d = d .number ∙ same-cancel (inForce (r .places)) lines same s
+  right-step r lines same (propose draw) o next d =
+      proposal-right areas lines draw o
+      (subst (λ (p : Proposal). Answers p o) (on-lines map areas e reads r lines same draw) (d .0 .post))
 
-refused-keeps : (r : Register) (c : Call) (o : Outcome c) (next : Register) → Step r c o next → (number c o ≡ 0 → ⊥) → next ≡ r
-refused-keeps r (grant l) o next d z = d .refused z
-refused-keeps r (cancel s) o next d z = d .refused z
+refused-keeps : (map : List ℕ) (r : Register) (c : Call) (o : Outcome c) (next : Register) →
+    Step map r c o next → (number c o ≡ 0 → ⊥) → next ≡ r
+refused-keeps map r (grant l) o next d z = d .refused z
+refused-keeps map r (cancel s) o next d z = d .refused z
+refused-keeps map r (propose draw) o next d z = d .1
 
 -- ---- the ledger's own lines
 
@@ -102,6 +157,7 @@ sound-after lines (cancel s) p =
       few = omega arith;
     }))
     (λ t. simp t p)
+sound-after lines (propose draw) p = p
 
 sound-from : (lines : List Licence) (cs : List Call) → Sound lines → Sound (ledger lines cs)
 sound-from lines [] p = p
@@ -116,34 +172,37 @@ same-sound xs ys same p =
     let few = p .few in
     record { once = λ s. (let e = same (signs s) in let once = p .once s in omega arith); few = omega arith }
 
-from : {r last : Register} {made : List Made} (lines : List Licence) (run : Run r made last) → Same r lines → Sound lines →
-    AllRight lines made × Registers lines run
-from {r} lines done same p = (tt, record { same = same; sound = same-sound (inForce (r .places)) lines same p })
-from {r} lines (step {next = next} m s run) same p =
-    let after = linesAfter lines (m .call) in
-    let h = from after run (same-step r lines same (m .call) (m .outcome) next s) (sound-after lines (m .call) p) in
-    let holds : Holds r lines = record { same = same; sound = same-sound (inForce (r .places)) lines same p } in
-    ((right-step r lines same (m .call) (m .outcome) next s, h .0), (holds, refused-keeps r (m .call) (m .outcome) next s, h .1))
+module _ (map : List ℕ) (areas : List Area) (end : ℕ) (reads : readMap map ≡ good areas end) where
+  from : {r last : Register} {made : List Made} (lines : List Licence) (run : Run map r made last) → Same r lines → Sound lines →
+      AllRight areas lines made × Registers lines run
+  from {r} lines done same p = (tt, record { same = same; sound = same-sound (inForce (r .places)) lines same p })
+  from {r} lines (step {next = next} m s run) same p =
+      let after = linesAfter lines (m .call) in
+      let h = from after run (same-step map r lines same (m .call) (m .outcome) next s) (sound-after lines (m .call) p) in
+      let holds : Holds r lines = record { same = same; sound = same-sound (inForce (r .places)) lines same p } in (
+        (right-step map areas end reads r lines same (m .call) (m .outcome) next s, h .0),
+        (holds, refused-keeps map r (m .call) (m .outcome) next s, h .1),
+      )
 
--- ---- the claim
+  -- ---- the claim
 
-pub list-claim : (first last : Register) (made : List Made) → Empties first → (run : Run first made last) → ListClaim run
-list-claim first last made e run =
-    let none : Sound [] = record { once = λ s. zero-le; few = zero-le } in
-    let h = from [] run (empty-same first e) none in
-    record {
-      right = h .0;
-      registers = h .1;
-      sound = λ before later q. sound-from [] (calls before) none;
-    }
+  pub list-claim : (first last : Register) (made : List Made) → Empties first → (run : Run map first made last) → ListClaim areas run
+  list-claim first last made e run =
+      let none : Sound [] = record { once = λ s. zero-le; few = zero-le } in
+      let h = from [] run (empty-same first e) none in
+      record {
+        right = h .0;
+        registers = h .1;
+        sound = λ before later q. sound-from [] (calls before) none;
+      }
 
-all-at : (lines : List Licence) (before : List Made) (m : Made) (later : List Made) →
-    AllRight lines (before ++ (m ∷ later)) → Right (ledger lines (calls before)) (m .call) (m .outcome)
-all-at lines [] m later h = h .0
-all-at lines (b ∷ before) m later h = all-at (linesAfter lines (b .call)) before m later (h .1)
+  all-at : (lines : List Licence) (before : List Made) (m : Made) (later : List Made) →
+      AllRight areas lines (before ++ (m ∷ later)) → Right areas (ledger lines (calls before)) (m .call) (m .outcome)
+  all-at lines [] m later h = h .0
+  all-at lines (b ∷ before) m later h = all-at (linesAfter lines (b .call)) before m later (h .1)
 
--- the claim for the call at any place of the list
-pub list-claim-at : (first last : Register) (before : List Made) (m : Made) (later : List Made) →
-    Empties first → Run first (before ++ (m ∷ later)) last → Right (ledger [] (calls before)) (m .call) (m .outcome)
-list-claim-at first last before m later e run =
-    all-at [] before m later (list-claim first last (before ++ (m ∷ later)) e run .right)
+  -- the claim for the call at any place of the list
+  pub list-claim-at : (first last : Register) (before : List Made) (m : Made) (later : List Made) →
+      Empties first → Run map first (before ++ (m ∷ later)) last → Right areas (ledger [] (calls before)) (m .call) (m .outcome)
+  list-claim-at first last before m later e run =
+      all-at [] before m later (list-claim first last (before ++ (m ∷ later)) e run .right)

@@ -9,7 +9,15 @@ use Rattle.register.specs.Contracts.{EmptyDone, GrantDone, CancelDone}
 use Rattle.register.proofs.Register.empty.Reads as empty-reads
 use Rattle.register.proofs.Register.grant.Reads as grant-reads
 use Rattle.register.proofs.Register.cancel.Reads as cancel-reads
-use Rattle.ledger.specs.Runs.{Empties, Grants, Cancels}
+use mathlib.Core.List.{List}
+use contract.Lifetimes.{Lfts}
+use Rattle.map.specs.Format.{readMap}
+use Rattle.register.specs.Licences.{inForce}
+use Rattle.proposal.specs.declared.Proposal.{Proposal}
+use Rattle.proposal.specs.Answer.{proposalOn}
+use Rattle.proposal.specs.Contracts.{Answers}
+use Rattle.proposal.proofs.propose.Reads as propose-reads
+use Rattle.ledger.specs.Runs.{Empties, Grants, Cancels, Where, lent}
 
 pub empties-is : (r : Register) → Empties r ≡ EmptyDone r
 empties-is r = refl
@@ -28,3 +36,11 @@ grant-asks-nothing r l = refl
 
 pub cancel-asks-nothing : (r : Register) (s : ℕ) → cancel-reads.Pre tt (r, (s, tt)) ≡ Unit {0}
 cancel-asks-nothing r s = refl
+
+module _ (lives : Lfts 1) (lies : Where) (map : List ℕ) (r : Register) (draw : ℕ) where
+  pub proposes-is : (p : Proposal) → propose-reads.Post lives (lent lies map, (r, (draw, tt))) p (lent lies map, (r, (draw, tt)))
+      ≡ Answers (proposalOn (readMap map) (inForce (r .places)) draw) p
+  proposes-is p = refl
+
+  pub propose-asks-nothing : propose-reads.Pre lives (lent lies map, (r, (draw, tt))) ≡ Unit {0}
+  propose-asks-nothing = refl

@@ -4,16 +4,19 @@ use mathlib.Core.List.{List, [], _∷_}
 use Rattle.register.specs.declared.Licence.{Licence}
 use Rattle.register.specs.declared.GrantAnswer.{GrantAnswer}
 use Rattle.register.specs.declared.CancelAnswer.{CancelAnswer}
+use Rattle.proposal.specs.declared.Proposal.{Proposal}
 
--- "The list of demand 3": a call with its arguments, but for the register
+-- "The list of demand 3": a call with its arguments, but for the register and the map. "Draws .. may be any at each call"
 pub data Call : Type 0 where
   grant : (l : Licence) → Call
   cancel : (s : ℕ) → Call
+  propose : (draw : ℕ) → Call
 
 -- "The list of demand 3": what comes of a call, accepted or refused
 abbrev pub Outcome : Call → Type 0
 Outcome (grant l) = GrantAnswer
 Outcome (cancel s) = CancelAnswer
+Outcome (propose draw) = Proposal
 
 -- "The list of demand 3": a call that was made
 pub record Made : Type 0 where

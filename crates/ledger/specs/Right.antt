@@ -1,31 +1,52 @@
 -- Document 01, "The list of demand 3": what is claimed of a list of calls. Assumes nothing.
 use Prim.Native.Nat.{ℕ, _≤_}
 use mathlib.Core.Path.{_≡_}
+use mathlib.Core.Bool.{cond}
 use mathlib.Core.List.{List, [], _∷_, _++_}
+use lib.Dec.{ltb}
 use lib.ListN.{length}
+use Rattle.map.specs.Format.{Area}
 use Rattle.register.specs.declared.Licence.{Licence}
 use Rattle.register.specs.declared.Register.{Register}
 use Rattle.register.specs.Licences.{inForce}
 use Rattle.register.specs.Rules.{grantNumber, cancelNumber, limit, grantRule, cancelRule}
 use Rattle.register.specs.Sums.{SameLicences, OnceEach}
-use Rattle.ledger.specs.Calls.{Call, grant, cancel, Outcome, Made, calls}
+use Rattle.coverage.specs.Cover.{holdingsOf}
+use Rattle.proposal.specs.declared.Proposal.{Proposal}
+use Rattle.proposal.specs.Choices.{partials}
+use Rattle.proposal.specs.Answer.{proposal}
+use Rattle.proposal.specs.Contracts.{refusalNumber, means, Answers}
+use Rattle.proposal.specs.Demand as demand
+use Rattle.ledger.specs.Calls.{Call, grant, cancel, propose, Outcome, Made, calls}
 use Rattle.ledger.specs.Ledger.{linesAfter, ledger}
 use Rattle.ledger.specs.Runs.{Run, done, step}
 
+-- "In a list, the licences in force are the ledger's lines before the call; c, S, T, share .. come from them": what is claimed of a
+-- proposal over a map with these areas
+pub record ProposalRight (areas : List Area) (lines : List Licence) (draw : ℕ) (p : Proposal) : Type 0 where
+  -- it is document 01's proposal for the lines, in every field
+  pub answer : Answers (proposal (holdingsOf lines areas) draw) p
+  -- "12: more than 20 partial areas", and nothing else is refused
+  pub refused : refusalNumber (p .outcome) ≡ cond (ltb 20 (length (partials (holdingsOf lines areas)))) 12 0
+  -- not refused, it is an allowed choice from S, every allowed choice ranks level or behind, and it is all whole exactly when some is
+  pub right : refusalNumber (p .outcome) ≡ 0 → demand.Right (holdingsOf lines areas) (means p)
+
 -- "The list of demand 3": an outcome is right if it is what the ledger answers, by its lines before the call
-abbrev pub Right : List Licence → (c : Call) → Outcome c → Type 0
-Right lines (grant l) answer = grantNumber answer ≡ grantRule lines l
-Right lines (cancel s) answer = cancelNumber answer ≡ cancelRule lines s
+abbrev pub Right : List Area → List Licence → (c : Call) → Outcome c → Type 0
+Right areas lines (grant l) answer = grantNumber answer ≡ grantRule lines l
+Right areas lines (cancel s) answer = cancelNumber answer ≡ cancelRule lines s
+Right areas lines (propose draw) p = ProposalRight areas lines draw p
 
 -- "The list of demand 3": one claim about a whole list of calls, each outcome right for the ledger's lines before its call
-abbrev pub AllRight : List Licence → List Made → Type 0
-AllRight lines [] = Unit {0}
-AllRight lines (m ∷ made) = Right lines (m .call) (m .outcome) × AllRight (linesAfter lines (m .call)) made
+abbrev pub AllRight : List Area → List Licence → List Made → Type 0
+AllRight areas lines [] = Unit {0}
+AllRight areas lines (m ∷ made) = Right areas lines (m .call) (m .outcome) × AllRight areas (linesAfter lines (m .call)) made
 
--- "Refused by the state": the number of an outcome, 0 where it is accepted
+-- "Refused by the input", "Refused by the state": the number of an outcome, 0 where nothing is refused
 abbrev pub number : (c : Call) → Outcome c → ℕ
 number (grant l) answer = grantNumber answer
 number (cancel s) answer = cancelNumber answer
+number (propose draw) p = refusalNumber (p .outcome)
 
 -- "The list of demand 3": no two lines share a call sign, and there are at most 64
 pub record Sound (lines : List Licence) : Type 0 where
@@ -39,15 +60,16 @@ pub record Holds (r : Register) (lines : List Licence) : Type 0 where
 
 -- the registers of a run: before each call and after the last they hold the ledger's lines, and ("Refused by the state") a refused
 -- call leaves its register
-abbrev pub Registers : {r last : Register} {made : List Made} → List Licence → Run r made last → Type 0
+abbrev pub Registers : {map : List ℕ} {r last : Register} {made : List Made} → List Licence → Run map r made last → Type 0
 Registers lines (done {r = r}) = Holds r lines
 Registers lines (step {r = r} {next = next} m s run) =
     Holds r lines × ((number (m .call) (m .outcome) ≡ 0 → ⊥) → next ≡ r) × Registers (linesAfter lines (m .call)) run
 
--- "The list of demand 3": the claim about a list of calls from an empty register
-pub record ListClaim {first last : Register} {made : List Made} (run : Run first made last) : Type 0 where
+-- "The list of demand 3": the claim about a list of calls from an empty register, over a map with these areas
+pub record ListClaim (areas : List Area) {map : List ℕ} {first last : Register} {made : List Made} (run : Run map first made last)
+    : Type 0 where
   -- every outcome is right for the ledger's lines before its call
-  pub right : AllRight [] made
+  pub right : AllRight areas [] made
   -- the registers hold the ledger's lines
   pub registers : Registers [] run
   -- the ledger's lines are sound after any first part of the list

@@ -1,7 +1,11 @@
 -- Document 01, "The list of demand 3": calls made one after another. What is known of each is its function's own contract: `Post` is made
--- of the clauses in the register's source, so nothing is said here of the functions a second time. Assumes nothing.
+-- of the clauses in the source, so nothing is said here of the functions a second time. Assumes nothing.
 use Prim.Native.Nat.{ℕ}
+use mathlib.Core.Path.{_≡_}
 use mathlib.Core.List.{List, [], _∷_}
+use base.Fml.{GName}
+use contract.Lifetimes.{Lfts}
+use denote.Ref.{RefT}
 use Rattle.register.specs.declared.Licence.{Licence}
 use Rattle.register.specs.declared.Register.{Register}
 use Rattle.register.specs.declared.Granted.{Granted}
@@ -9,7 +13,9 @@ use Rattle.register.specs.declared.Cancelled.{Cancelled}
 use Rattle.register.proofs.Register.empty.Reads as empty-reads
 use Rattle.register.proofs.Register.grant.Reads as grant-reads
 use Rattle.register.proofs.Register.cancel.Reads as cancel-reads
-use Rattle.ledger.specs.Calls.{Call, grant, cancel, Outcome, Made}
+use Rattle.proposal.specs.declared.Proposal.{Proposal}
+use Rattle.proposal.proofs.propose.Reads as propose-reads
+use Rattle.ledger.specs.Calls.{Call, grant, cancel, propose, Outcome, Made}
 
 -- "The register": what `Register::empty()` ensures
 abbrev pub Empties : Register → Type 0
@@ -23,13 +29,30 @@ Grants r l g = grant-reads.Post tt (r, (l, tt)) g (r, (l, tt))
 abbrev pub Cancels : Register → ℕ → Cancelled → Type 0
 Cancels r s k = cancel-reads.Post tt (r, (s, tt)) k (r, (s, tt))
 
--- "The list of demand 3": a call, from the register that it gets to the register that it hands back
-abbrev pub Step : Register → (c : Call) → Outcome c → Register → Type 0
-Step r (grant l) answer next = Grants r l (record { next = next; answer = answer })
-Step r (cancel s) answer next = Cancels r s (record { next = next; answer = answer })
+-- where the map's bytes lie, and the name that their value goes by: any
+pub record Where : Type 0 where
+  pub ptr : ℕ × ℕ
+  pub name : GName
 
--- "The list of demand 3": each call gets the register of the call before it, and nobody else writes it
-pub data Run : Register → List Made → Register → Type 0 where
-  done : {r : Register} → Run r [] r
+-- bytes that are lent from there
+abbrev pub lent : Where → List ℕ → RefT (List ℕ)
+lent w bytes = record { ptr = w .ptr; name = w .name; now = bytes }
+
+-- "The proposal": what `propose(map, r, draw)` ensures, the map being lent for some time
+pub record Proposes (map : List ℕ) (r : Register) (draw : ℕ) (p : Proposal) : Type 0 where
+  pub lives : Lfts 1
+  pub lies : Where
+  pub post : propose-reads.Post lives (lent lies map, (r, (draw, tt))) p (lent lies map, (r, (draw, tt)))
+
+-- "The list of demand 3": a call, from the register that it gets to the register that it hands back or leaves
+abbrev pub Step : (map : List ℕ) → Register → (c : Call) → Outcome c → Register → Type 0
+Step map r (grant l) answer next = Grants r l (record { next = next; answer = answer })
+Step map r (cancel s) answer next = Cancels r s (record { next = next; answer = answer })
+Step map r (propose draw) p next = Proposes map r draw p × (next ≡ r)
+
+-- "The list of demand 3": each call gets the register of the call before it, and nobody else writes it; "Proposals .. read the same
+-- bytes throughout"
+pub data Run (map : List ℕ) : Register → List Made → Register → Type 0 where
+  done : {r : Register} → Run map r [] r
   step : {r next last : Register} {made : List Made} (m : Made) →
-      Step r (m .call) (m .outcome) next → Run next made last → Run r (m ∷ made) last
+      Step map r (m .call) (m .outcome) next → Run map next made last → Run map r (m ∷ made) last
