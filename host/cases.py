@@ -4,11 +4,14 @@
     host/cases.py            compare with crates/holdings/stdin and stdout; exit status 1 if they differ
     host/cases.py --write    write both files
 
-Everything here was written from document 01 and shares nothing with the crates: maps are taken apart field by field, and the
-register is a dictionary. A case is M (a map, and numbers to look up in it), G (a grant), C (a cancellation) or E (from here on
-an empty register)."""
+Everything here was written from document 01 and shares nothing with the crates: maps are taken apart field by field, the
+register is a dictionary, and a proposal is found by trying every choice. A case is M (a map, and numbers to look up in it),
+G (a grant), C (a cancellation), E (from here on an empty register) or P (a map, numbers whose coverage and blocks are asked for,
+and draws to make proposals with)."""
 
 import random
+from fractions import Fraction
+from itertools import product
 import struct
 import sys
 from pathlib import Path
@@ -57,18 +60,22 @@ def read_map(data):
         columns = reader.field("B", 1, 128)
         start = reader.at
         people = 0
+        cells = []
         for _ in range(rows):
             bits = int.from_bytes(reader.take((columns + 7) // 8), "little")
             if bits >> columns:
                 raise Refused(2)
             for _ in range(bin(bits).count("1")):
-                people += reader.field("I", 0, 1000000)
-                reader.field("i", -32400000, 32400000)
-                reader.field("i", -64800000, 64800000)
+                here = reader.field("I", 0, 1000000)
+                latitude = reader.field("i", -32400000, 32400000)
+                longitude = reader.field("i", -64800000, 64800000)
+                people += here
+                cells.append((here, latitude, longitude))
         if not 1 <= people <= 40000000:
             raise Refused(5)
         part = data[start : reader.at]
-        areas.append(dict(number=number, weight=weight, rows=rows, columns=columns, people=people, part=part))
+        found = dict(number=number, weight=weight, rows=rows, columns=columns, people=people, part=part, cells=cells)
+        areas.append(found)
     if reader.at != len(data):
         raise Refused(3)
     return areas
@@ -127,6 +134,127 @@ class Register:
             return 11
         del self.lines[sign]
         return 0
+
+
+# ---- document 01: coverage and blocks
+
+
+def covers(ground, number, latitude, longitude):
+    if ground[0] == "area":
+        return ground[1] == number
+    _, south, north, west, east = ground
+    return south <= latitude < north and west <= longitude < east
+
+
+def covered(area, grounds):
+    """c of an area."""
+    number = area["number"]
+    return sum(people for ground in grounds for people, *point in area["cells"] if covers(ground, number, *point))
+
+
+def blocks(area, grounds):
+    """Whole blocks, v and M."""
+    pop = area["people"]
+    whole, rest = divmod(covered(area, grounds), 2 * pop)
+    if 50 * rest >= 99 * pop:
+        return whole + 1, 0, 0
+    if rest > 0:
+        return whole, 50 * area["weight"] * rest, 100 * area["weight"] * pop
+    return whole, 0, 0
+
+
+# ---- document 01: the proposal
+
+
+def allowed_choices(partial, target):
+    """Every allowed choice of (v, M, weight), as its whole set and its partial area's place or None, with what it is ranked by."""
+    for marks in product("owp", repeat=len(partial)):
+        if marks.count("p") > 1:
+            continue
+        share = target - sum(size for mark, (_, size, _) in zip(marks, partial) if mark == "w")
+        number = sum(2**place for place, mark in enumerate(marks) if mark == "w")
+        if "p" not in marks:
+            if share == 0:
+                yield (0, 0, 0), None, number, 0
+            continue
+        place = marks.index("p")
+        _, size, weight = partial[place]
+        if 0 < share < size:
+            white = size - share
+            yield (0 if 10 * share >= 9 * size else 1, white, Fraction(white, 100 * weight)), place, number, share
+
+
+def few_sums(partial, target):
+    """The same by the sums that can be reached, for more areas than every choice can be tried of."""
+
+    def reached(places):
+        sums = {0: 0}
+        for place in places:
+            size = partial[place][1]
+            for total, number in list(sums.items()):
+                if total + size <= target:
+                    new = number + 2**place
+                    sums[total + size] = min(sums.get(total + size, new), new)
+        return sums
+
+    if target in reached(range(len(partial))):
+        yield (0, 0, 0), None, reached(range(len(partial)))[target], 0
+    for place, (_, size, weight) in enumerate(partial):
+        for total, number in reached([other for other in range(len(partial)) if other != place]).items():
+            share = target - total
+            if 0 < share < size:
+                white = size - share
+                yield (0 if 10 * share >= 9 * size else 1, white, Fraction(white, 100 * weight)), place, number, share
+
+
+def proposal(areas, grounds, draw):
+    """The lines that tell a proposal."""
+    held = [blocks(area, grounds) for area in areas]
+    partial = [(value, size, area["weight"]) for area, (_, value, size) in zip(areas, held) if size]
+    if len(partial) > 20:
+        return [" refused 12"]
+    target = sum(value for value, _, _ in partial)
+    choices = list((allowed_choices if len(partial) < 9 else few_sums)(partial, target))
+    rank = min(choice[0] for choice in choices)
+    best = [choice for choice in choices if choice[0] == rank]
+    tied = sorted({place for _, place, _, _ in best if place is not None})
+    place = tied[draw % len(tied)] if tied else None
+    _, _, number, share = min((choice for choice in best if choice[1] == place), key=lambda choice: choice[2])
+    kind = 1 if place is None else 2 if rank[0] == 0 else 3
+    lines = [f" kind {kind}", f" target {target}", f" white {rank[1]}", f" tied {len(tied)}"]
+    index = 0
+    for area, (whole, _, size) in zip(areas, held):
+        gets = "nothing"
+        if size:
+            if index == place:
+                gets = "rounded up" if kind == 2 else f"share {share}"
+            elif number >> index & 1:
+                gets = "whole"
+            index += 1
+        lines += [f" area {area['number']}", f"  blocks {whole}", f"  {gets}"]
+    return lines
+
+
+def proposal_lines(data, register, numbers, draws):
+    grounds = list(register.lines.values())
+    try:
+        areas, refused = read_map(data), 0
+    except Refused as fault:
+        areas, refused = [], fault.args[0]
+    lines = []
+    for number in numbers:
+        lines.append(f"coverage {number}")
+        if refused:
+            lines += [f" refused {refused}"] * 2
+            continue
+        found = [area for area in areas if area["number"] == number]
+        whole, value, size = blocks(found[0], grounds) if found else (0, 0, 0)
+        lines.append(f" people {covered(found[0], grounds) if found else 0}")
+        lines += [f" whole {whole}", f" value {value}", f" size {size}"]
+    for draw in draws:
+        lines.append(f"propose {draw}")
+        lines += [f" refused {refused}"] if refused else proposal(areas, grounds, draw)
+    return lines
 
 
 # ---- maps
@@ -239,6 +367,12 @@ def cancel_case(register, sign):
     return b"C" + struct.pack("<I", sign), [f"cancel {register.cancel(sign)}"]
 
 
+def proposal_case(register, data, numbers, draws):
+    packed = b"P" + struct.pack("<I", len(data)) + data + bytes([len(numbers), len(draws)])
+    packed += b"".join(struct.pack("<H", number) for number in numbers)
+    return packed + b"".join(struct.pack("<I", draw) for draw in draws), proposal_lines(data, register, numbers, draws)
+
+
 def random_ground(dice):
     if dice.random() < 0.5:
         return ("area", dice.choice((0, 1, 5, 416, 417, 65535)))
@@ -274,15 +408,91 @@ def register_cases(dice):
                 yield cancel_case(register, sign)
 
 
+def strips(areas):
+    """A map of areas of one row, each a weight and (people, latitude) by column, numbered from 1."""
+    return of(*(area(number, weight, 1, len(cells), row(len(cells), {column: cell(*here) for column, here in enumerate(cells)}))
+                for number, (weight, cells) in enumerate(areas, 1)))
+
+
+def held(register, areas):
+    """A map and grants by which the areas, each (weight, pop, c), have their c: one licence each, on a strip of latitudes."""
+    grants, drawn = [], []
+    for index, (weight, pop, c) in enumerate(areas):
+        # c is some whole populations and the people of a first cell
+        times, part = divmod(c, pop)
+        base = 1000 * index
+        drawn.append((weight, [(part, base), (pop - part, base + 500)] if 0 < part else [(pop, base)]))
+        sign = 100 * index + 1
+        grants += [grant_case(register, sign + time, ("area", index + 1)) for time in range(times)]
+        if part:
+            grants.append(grant_case(register, sign + times, ("box", base, base + 500, -1, 1)))
+    return strips(drawn), grants
+
+
+HOLDINGS = [
+    [(1, 100, 198)],
+    [(1, 100, 197)],
+    [(1, 100, 180)],
+    [(1, 100, 179)],
+    [(1, 100, 100), (1, 100, 100)],
+    [(1, 100, 100), (1, 40, 40)],
+    [(1, 1000, 1000), (1, 330, 300), (1, 330, 300), (1, 330, 300)],
+    [(1, 100, 180), (3, 120, 200)],
+    [(1, 100, 150), (1, 100, 150)],
+]
+
+
+def proposal_cases(dice):
+    """Document 01's holdings 1 to 9, and more of their kind."""
+    for areas in HOLDINGS:
+        register = Register()
+        yield b"E", ["empty"]
+        data, grants = held(register, areas)
+        yield from grants
+        yield proposal_case(register, data, (1, 2, 416), (0, 3))
+    # a licence that is cancelled no longer counts
+    yield cancel_case(register, 1)
+    yield proposal_case(register, data, (1, 2), (0, 3, 2**32 - 1))
+    # nothing is held
+    yield b"E", ["empty"]
+    yield proposal_case(Register(), GAPS, (5, 7, 6), (0,))
+    # refused maps
+    for data in (b"", GAPS + b"\0", one(b"\1" + cell(0)), of(square(5), square(5)), of(square(5, 0))):
+        yield proposal_case(Register(), data, (5,), (0,))
+    # edges of boxes on cells, and two licences on one cell
+    register = Register()
+    edges = strips([(1, [(7, 0), (5, 10), (3, 20), (1, -10)])])
+    for sign, ground in enumerate((("box", 0, 10, 0, 1), ("box", 10, 20, 0, 1), ("box", -10, 21, -1, 0), ("box", -10, 21, 0, 5)), 1):
+        yield grant_case(register, sign, ground)
+        yield proposal_case(register, edges, (1,), (0,))
+    # twenty partial areas, and twenty-one
+    for count in (20, 21):
+        register = Register()
+        yield b"E", ["empty"]
+        data, grants = held(register, [(1, 100, 35)] * count)
+        yield from grants
+        yield proposal_case(register, data, (count,), (0, 1, 7))
+    for _ in range(60):
+        register = Register()
+        yield b"E", ["empty"]
+        count = dice.randint(1, 6)
+        pops = dice.choice(((10,), (10, 20), (7, 11, 13), (100, 50)))
+        areas = [(dice.choice((1, 1, 1, 2, 3)), pop, dice.randint(1, 3 * pop)) for pop in (dice.choice(pops) for _ in range(count))]
+        data, grants = held(register, areas)
+        yield from grants
+        yield proposal_case(register, data, (1,), (0, dice.randrange(2**32)))
+
+
 def cases():
     dice = random.Random(39)
     for data in fixed_maps():
         yield map_case(data, (5, 7, 6, 0))
-    for _ in range(60):
+    for _ in range(40):
         data, numbers = random_map(dice)
         yield map_case(data, (*numbers, dice.randrange(417)))
         yield map_case(damaged(dice, data), numbers[:1])
     yield from register_cases(dice)
+    yield from proposal_cases(dice)
 
 
 def main():

@@ -1,8 +1,13 @@
 // Plays a file of cases: maps that are checked and looked up in, and calls on one register. host/cases.py writes the cases and,
 // by an implementation of its own, the lines that must come out.
+use coverage::BlocksAnswer;
+use coverage::CoverageAnswer;
 use map::Found;
 use map::fields;
 use map::fields::Field;
+use proposal::AreaAnswer;
+use proposal::Gets;
+use proposal::Proposal;
 use register::GeoBox;
 use register::Ground;
 use register::Licence;
@@ -33,7 +38,8 @@ fn play_all(s: &[u8]) {
     }
 }
 
-// One case, by its first byte: M a map, G a grant, C a cancellation, E an empty register. Anything else ends the file.
+// One case, by its first byte: M a map, G a grant, C a cancellation, E an empty register, P proposals. Anything else ends the
+// file.
 fn play(s: &[u8], register: Register) -> Played
     requires { ⌜ 0 < length (now s) ⌝ }
     ensures { λ r. ⌜ (0 < r .used) × (r .used ≤ length (now (s .entry))) ⌝ }
@@ -54,6 +60,10 @@ fn play(s: &[u8], register: Register) -> Played
                 used: 1,
                 register: empty,
             }
+        }
+        b'P' => {
+            let used = 1 + proposal_case(rest, register);
+            Played { used, register }
         }
         _ => Played {
             used: s.len(),
@@ -189,6 +199,121 @@ fn cancel_case(s: &[u8], register: Register) -> Played
     Played {
         used: 5,
         register: next,
+    }
+}
+
+// Proposals: a map's length and bytes, how many numbers and draws there are, the numbers whose coverage and blocks are asked for,
+// and the draws.
+fn proposal_case(s: &[u8], register: Register) -> usize
+    ensures { λ r. ⌜ r ≤ length (now (s .entry)) ⌝ }
+{
+    if s.len() < 4 {
+        return s.len();
+    }
+    let size = u32_at(s, 0) as usize;
+    if s.len() - 4 < size {
+        return s.len();
+    }
+    let end = 4 + size;
+    let map = &s[4..end];
+    let rest = &s[end..];
+    if rest.len() < 2 {
+        return s.len();
+    }
+    let numbers = coverages(&rest[2..], map, register, rest[0]);
+    let at = end + 2 + numbers;
+    at + proposals(&s[at..], map, register, rest[1])
+}
+
+// The coverage and the blocks of the areas with some numbers.
+fn coverages(s: &[u8], map: &[u8], register: Register, count: u8) -> usize
+    ensures { λ r. ⌜ r ≤ length (now (s .entry)) ⌝ }
+{
+    let mut used: usize = 0;
+    let mut i: u8 = 0;
+    while i < count {
+        if s.len() - used < 2 {
+            return s.len();
+        }
+        covered(map, register, u16_at(s, used));
+        used += 2;
+        i += 1;
+    }
+    used
+}
+
+fn covered(map: &[u8], register: Register, number: u16) {
+    print(b"coverage", number as u64);
+    match coverage::coverage(map, register, number) {
+        CoverageAnswer::Refused(f) => print(b" refused", f.number() as u64),
+        CoverageAnswer::Covered(people) => print(b" people", people.0),
+    }
+    match coverage::blocks(map, register, number) {
+        BlocksAnswer::Refused(f) => print(b" refused", f.number() as u64),
+        BlocksAnswer::Held(b) => {
+            print(b" whole", b.whole);
+            let value = b.value;
+            print(b" value", value.0);
+            let size = b.size;
+            print(b" size", size.0);
+        }
+    }
+}
+
+// The proposals with some draws.
+fn proposals(s: &[u8], map: &[u8], register: Register, count: u8) -> usize
+    ensures { λ r. ⌜ r ≤ length (now (s .entry)) ⌝ }
+{
+    let mut used: usize = 0;
+    let mut i: u8 = 0;
+    while i < count {
+        if s.len() - used < 4 {
+            return s.len();
+        }
+        let draw = u32_at(s, used);
+        print(b"propose", draw as u64);
+        proposed(proposal::propose(map, register, draw));
+        used += 4;
+        i += 1;
+    }
+    used
+}
+
+fn proposed(p: Proposal) {
+    let outcome = p.outcome;
+    let refused = outcome.refusal();
+    if refused != 0 {
+        print(b" refused", refused as u64);
+        return;
+    }
+    print(b" kind", outcome.kind() as u64);
+    let target = p.target;
+    print(b" target", target.0);
+    let white = p.white_space;
+    print(b" white", white.0);
+    print(b" tied", p.tied as u64);
+    let areas = p.areas;
+    let count = p.count;
+    given(areas, count);
+}
+
+// What the first areas are given.
+fn given(areas: [AreaAnswer; 32], count: usize) {
+    let mut i: usize = 0;
+    while i < 32 {
+        if i < count {
+            let a = areas[i];
+            print(b" area", a.number as u64);
+            print(b"  blocks", a.blocks);
+            let gets = a.gets;
+            match gets {
+                Gets::Nothing => line(b"  nothing"),
+                Gets::Whole => line(b"  whole"),
+                Gets::RoundedUp => line(b"  rounded up"),
+                Gets::Share(amount) => print(b"  share", amount.0),
+            }
+        }
+        i += 1;
     }
 }
 
