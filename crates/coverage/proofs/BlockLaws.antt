@@ -1,16 +1,16 @@
 -- Laws of the blocks of an area. Assumes nothing.
 use Prim.Native.Nat.{ℕ, _+_, _*_, _/_, _≤_, _<_}
 use mathlib.Core.Path.{_≡_, sym, _∙_}
-use mathlib.Core.Bool.{true, false}
+use mathlib.Core.Bool.{Bool, true, false, cond, _&&_}
 use mathlib.Core.List.{List}
 use native.Mathlib.Omega.{arith}
 use native.Mathlib.Nat.{add-zero, mod-lt, mul-le-mul, mul-pos}
-use lib.Dec.{ltb}
-use borrow.Author.Tests.{lt-ltb, le-ltb, le-leb, lt-leb}
+use lib.Dec.{ltb, leb}
+use borrow.Author.Tests.{lt-ltb, le-ltb, leb-true, le-leb, lt-leb}
 use Rattle.units.specs.Sums.{capped}
 use Rattle.units.proofs.Laws.{exact}
 use Rattle.lists.specs.Sums.{All}
-use Rattle.lists.proofs.Tests.{by-test}
+use Rattle.lists.proofs.Tests.{by-test, takes, both, first-of, second-of}
 use Rattle.lists.proofs.SumLaws.{all-map}
 use Rattle.map.specs.Reading.{good}
 use Rattle.map.specs.Format.{Area, readMap}
@@ -21,7 +21,8 @@ use Rattle.coverage.specs.declared.Holding.{Holding}
 use Rattle.coverage.specs.declared.AreaBlocks.{AreaBlocks}
 use Rattle.coverage.specs.Cover.{holdingOf, holdingsOf}
 use Rattle.coverage.specs.Blocks.{remainder, roundsUp, wholeBlocks, partial, value, size, blocksOf}
-use Rattle.coverage.specs.Limits.{Limits}
+use Rattle.coverage.specs.Limits.{Limits, inLimits}
+use Rattle.coverage.specs.Answers.{noBlocks}
 
 -- ---- the holdings of an accepted map are within the limits
 
@@ -32,6 +33,43 @@ pub limits-in : (ls : List Licence) (s : List ℕ) (areas : List Area) (e : ℕ)
     → All Limits (holdingsOf ls areas)
 limits-in ls s areas e q = all-map (AreaHolds s) Limits (holdingOf ls) (limits-of ls) areas (accepted s areas e q .each)
 
+-- ---- the limits as a test
+
+module _ (h : Holding) where
+  abbrev heavyTest : Bool
+  heavyTest = leb 1 (h .weight)
+
+  abbrev weightTest : Bool
+  weightTest = heavyTest && leb (h .weight) 65535
+
+  abbrev peopledTest : Bool
+  peopledTest = leb 1 (h .population .0)
+
+  abbrev smallTest : Bool
+  smallTest = leb (h .population .0) 40000000
+
+  pub limits-pass : Limits h → inLimits h ≡ true
+  unfolding inLimits
+  limits-pass w =
+      let weight : weightTest ≡ true = both (le-leb 1 (h .weight) (w .heavy)) (le-leb (h .weight) 65535 (w .light)) in
+      both (both weight (le-leb 1 (h .population .0) (w .peopled))) (le-leb (h .population .0) 40000000 (w .small))
+
+  pub limits-told : inLimits h ≡ true → Limits h
+  unfolding inLimits
+  limits-told e =
+      let three = first-of (weightTest && peopledTest) smallTest e in
+      let weight = first-of weightTest peopledTest three in
+      record {
+        heavy = leb-true 1 (h .weight) (first-of heavyTest (leb (h .weight) 65535) weight);
+        light = leb-true (h .weight) 65535 (second-of heavyTest (leb (h .weight) 65535) weight);
+        peopled = leb-true 1 (h .population .0) (second-of weightTest peopledTest three);
+        small = leb-true (h .population .0) 40000000 (second-of (weightTest && peopledTest) smallTest e);
+      }
+
+-- within the limits the blocks are those of the definition
+pub blocks-exact : {h : Holding} {x : AreaBlocks} → Limits h → x ≡ cond (inLimits h) (blocksOf h) noBlocks → x ≡ blocksOf h
+blocks-exact {h} w e = e ∙ sym (takes noBlocks (limits-pass h w))
+
 -- ---- the blocks of an area within the limits
 
 module _ {h : Holding} (w : Limits h) where
@@ -40,14 +78,15 @@ module _ {h : Holding} (w : Limits h) where
   unfolding remainder
   remainder-small = mod-lt (h .covered .0) (omega (arith, w .peopled))
 
-  value-small : value h ≤ 262140000000000
+  -- v and M are at most what the largest area has
+  pub value-small : value h ≤ 262140000000000
   unfolding value
   value-small =
       let r : remainder h ≤ 80000000 = omega (arith, remainder-small, w .small) in
       let m : 50 * h .weight ≤ 3276750 = omega (arith, w .light) in
       omega (arith, mul-le-mul m r)
 
-  size-small : size h ≤ 262140000000000
+  pub size-small : size h ≤ 262140000000000
   unfolding size
   size-small =
       let m : 100 * h .weight ≤ 6553500 = omega (arith, w .light) in
@@ -63,15 +102,6 @@ module _ {h : Holding} (w : Limits h) where
   pub partial-sized : partial h ≡ ltb 0 (blocksOf h .size .0)
   unfolding blocksOf
   partial-sized = by-test (partial h) (λ t. simp t (sym (lt-ltb 0 (size h) size-some))) (λ t. simp t)
-
-  -- v and M are at most what the largest area has
-  pub value-bounded : blocksOf h .value .0 ≤ 262140000000000
-  unfolding blocksOf
-  value-bounded = by-test (partial h) (λ t. simp t value-small) (λ t. simp t (omega arith))
-
-  pub size-bounded : blocksOf h .size .0 ≤ 262140000000000
-  unfolding blocksOf
-  size-bounded = by-test (partial h) (λ t. simp t size-small) (λ t. simp t (omega arith))
 
   -- what the two products give
   pub value-exact : {v : ℕ} → v ≡ capped (50 * h .weight * remainder h) → v ≡ value h

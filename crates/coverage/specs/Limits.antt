@@ -1,6 +1,8 @@
 -- Document 01, "Coverage and blocks": what the functions below its two ways in ask for and give. Assumes nothing.
 use Prim.Native.Nat.{ℕ, _≤_, _<_}
+use mathlib.Core.Bool.{Bool, _&&_}
 use mathlib.Core.List.{List}
+use lib.Dec.{leb}
 use lib.ListN.{replicate}
 use Rattle.lists.specs.Sums.{total}
 use Rattle.map.specs.Reading.{Read, bad, good}
@@ -20,6 +22,10 @@ pub record Limits (h : Holding) : Type 0 where
   pub light : h .weight ≤ 65535
   pub peopled : 0 < h .population .0
   pub small : h .population .0 ≤ 40000000
+
+-- the same limits as a test
+unfoldable pub inLimits : Holding → Bool
+inLimits h = leb 1 (h .weight) && leb (h .weight) 65535 && leb 1 (h .population .0) && leb (h .population .0) 40000000
 
 -- "For an area, c is the sum, over licences in force, of the people in covered cells": by what is read of the area's rows
 abbrev pub coveredIn : List Licence → (number : ℕ) → Read (List (List Place)) → ℕ

@@ -2,15 +2,21 @@
 // in are coverage and blocks; the module parts serves the crates above.
 pub mod parts;
 
+use map::Area;
 use map::Checked;
 use map::Fault;
 use map::Found;
+use map::parts::Tally;
+use register::Boxes;
 use register::Register;
 use units::People;
 use units::Weighted;
 ghost use mathlib.Core.Path.{_≡_};
-ghost use Rattle.map.specs.Format.{readMap};
+ghost use Prim.Native.Nat.{_≤_};
+ghost use Rattle.map.specs.Format.{readRows, readMap};
 ghost use Rattle.register.specs.Licences.{inForce};
+ghost use Rattle.register.specs.Grounds.{BoxesDone};
+ghost use Rattle.coverage.specs.Limits.{coveredIn, holdingIn};
 ghost use Rattle.coverage.specs.Answers.{coverageAt, blocksAt, coverageMeans, blocksMeans};
 
 // An area of a map with c, the people that licences in force cover in it.
@@ -57,6 +63,39 @@ impl Holding {
     };
 }
 
+// c of an area whose rows stand at its start: licences with its number count all its people, boxes those in the cells they cover.
+fn covered_in(map: &[u8], a: Area, register: Register, boxes: Boxes) -> People
+    requires { ⌜ (a .columns ≤ 256) × (a .rows ≤ 256) × BoxesDone (register .places) boxes ⌝ }
+    ensures { λ r. ⌜
+        r .0 ≡ coveredIn (inForce (register .places)) (a .number) (readRows (now (map .entry)) (a .columns) (a .rows) (a .start))
+        ⌝ }
+{
+    let always = register.naming(a.number);
+    let edges = boxes.edges;
+    let end = 4 * boxes.count;
+    match map::parts::people_in(map, a.columns, a.rows, a.start, always, &edges[..end]) {
+        Tally::Bad(_) => People(0),
+        Tally::Good(people, _) => people,
+    }
+}
+
+// An area with its c.
+fn holding_in(map: &[u8], a: Area, register: Register, boxes: Boxes) -> Holding
+    requires { ⌜ (a .columns ≤ 256) × (a .rows ≤ 256) × BoxesDone (register .places) boxes ⌝ }
+    ensures { λ r. ⌜
+        r ≡ holdingIn (inForce (register .places)) a (readRows (now (map .entry)) (a .columns) (a .rows) (a .start))
+        ⌝ }
+{
+    let population = a.population;
+    let covered = covered_in(map, a, register, boxes);
+    Holding {
+        number: a.number,
+        weight: a.weight,
+        population,
+        covered,
+    }
+}
+
 // c of the area with a number: zero for a number that the map lacks.
 pub fn coverage(map: &[u8], register: Register, number: u16) -> CoverageAnswer
     ensures { λ r. ⌜ coverageMeans r ≡ coverageAt number (inForce (register .places)) (readMap (now (map .entry))) ⌝ }
@@ -64,12 +103,7 @@ pub fn coverage(map: &[u8], register: Register, number: u16) -> CoverageAnswer
     match map::look_up(map, number) {
         Found::Refused(f) => CoverageAnswer::Refused(f),
         Found::Lacking => CoverageAnswer::Covered(People(0)),
-        Found::At(a) => CoverageAnswer::Covered(parts::covered_in(
-            map,
-            a,
-            register,
-            register.boxes(),
-        )),
+        Found::At(a) => CoverageAnswer::Covered(covered_in(map, a, register, register.boxes())),
     }
 }
 
@@ -84,7 +118,7 @@ pub fn blocks(map: &[u8], register: Register, number: u16) -> BlocksAnswer
             value: Weighted(0),
             size: Weighted(0),
         }),
-        Found::At(a) => BlocksAnswer::Held(parts::blocks_of(parts::holding_in(
+        Found::At(a) => BlocksAnswer::Held(parts::blocks_of(holding_in(
             map,
             a,
             register,

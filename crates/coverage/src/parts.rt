@@ -2,29 +2,49 @@
 use super::AreaBlocks;
 use super::Holding;
 use super::Holdings;
-use map::Area;
 use map::Checked;
 use map::Fault;
 use map::fields::Field;
 use map::parts::AreaRead;
-use map::parts::Tally;
-use register::Boxes;
 use register::Register;
 use units::People;
 use units::Weighted;
 ghost use mathlib.Core.Path.{_≡_};
+ghost use mathlib.Core.Bool.{cond};
 ghost use Prim.Native.Nat.{_≤_};
-ghost use Rattle.map.specs.Format.{readRows, readRest, readMap};
+ghost use Rattle.map.specs.Format.{readRest, readMap};
 ghost use Rattle.register.specs.Licences.{inForce};
-ghost use Rattle.register.specs.Grounds.{BoxesDone};
 ghost use Rattle.coverage.specs.Blocks.{blocksOf};
-ghost use Rattle.coverage.specs.Limits.{Limits, coveredIn, holdingIn, noHoldings};
-ghost use Rattle.coverage.specs.Answers.{HoldingsDone};
+ghost use Rattle.coverage.specs.Limits.{Limits, inLimits, noHoldings};
+ghost use Rattle.coverage.specs.Answers.{noBlocks, HoldingsDone};
 
-// The blocks of an area whose fields are within the map's limits.
+// Whether an area's weight and population are within the map's limits.
+fn in_limits(h: Holding) -> bool
+    ensures { λ r. ⌜ r ≡ inLimits h ⌝ }
+{
+    let population = h.population;
+    (1 <= h.weight) & (h.weight <= 65535) & (1 <= population.0) & (population.0 <= 40000000)
+}
+
+// The blocks of an area: none where its weight or population is outside the map's limits, as the population could be 0 there and
+// the products above the largest u64. No area of an accepted map is outside them.
 pub fn blocks_of(h: Holding) -> AreaBlocks
+    ensures { λ r. ⌜ r ≡ cond (inLimits h) (blocksOf h) noBlocks ⌝ }
+{
+    if in_limits(h) {
+        return blocks_within(h);
+    }
+    AreaBlocks {
+        whole: 0,
+        value: Weighted(0),
+        size: Weighted(0),
+    }
+}
+
+// The blocks of an area within the limits.
+fn blocks_within(h: Holding) -> AreaBlocks
     requires { ⌜ Limits h ⌝ }
-    ensures { λ r. ⌜ (r ≡ blocksOf h) × (r .value .0 ≤ 262140000000000) × (r .size .0 ≤ 262140000000000) ⌝ }
+    ensures { λ r. ⌜ r ≡ blocksOf h ⌝ }
 {
     let population = h.population;
     let covered = h.covered;
@@ -48,39 +68,6 @@ pub fn blocks_of(h: Holding) -> AreaBlocks
         whole,
         value: People(rest).weighted(50, h.weight),
         size: population.weighted(100, h.weight),
-    }
-}
-
-// c of an area whose rows stand at its start: licences with its number count all its people, boxes those in the cells they cover.
-pub fn covered_in(map: &[u8], a: Area, register: Register, boxes: Boxes) -> People
-    requires { ⌜ (a .columns ≤ 256) × (a .rows ≤ 256) × BoxesDone (register .places) boxes ⌝ }
-    ensures { λ r. ⌜
-        r .0 ≡ coveredIn (inForce (register .places)) (a .number) (readRows (now (map .entry)) (a .columns) (a .rows) (a .start))
-        ⌝ }
-{
-    let always = register.naming(a.number);
-    let edges = boxes.edges;
-    let end = 4 * boxes.count;
-    match map::parts::people_in(map, a.columns, a.rows, a.start, always, &edges[..end]) {
-        Tally::Bad(_) => People(0),
-        Tally::Good(people, _) => people,
-    }
-}
-
-// An area with its c.
-pub fn holding_in(map: &[u8], a: Area, register: Register, boxes: Boxes) -> Holding
-    requires { ⌜ (a .columns ≤ 256) × (a .rows ≤ 256) × BoxesDone (register .places) boxes ⌝ }
-    ensures { λ r. ⌜
-        r ≡ holdingIn (inForce (register .places)) a (readRows (now (map .entry)) (a .columns) (a .rows) (a .start))
-        ⌝ }
-{
-    let population = a.population;
-    let covered = covered_in(map, a, register, boxes);
-    Holding {
-        number: a.number,
-        weight: a.weight,
-        population,
-        covered,
     }
 }
 
@@ -121,7 +108,7 @@ fn holdings_from(map: &[u8], register: Register, count: usize, first: usize) -> 
                 return no_holdings(f);
             }
             AreaRead::Good(a) => {
-                areas[k] = holding_in(map, a, register, boxes);
+                areas[k] = super::holding_in(map, a, register, boxes);
                 before = a.number;
                 at = a.end;
             }

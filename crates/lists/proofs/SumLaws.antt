@@ -5,9 +5,10 @@ use mathlib.Core.Bool.{Bool, false}
 use mathlib.Core.List.{List, [], _∷_, _++_, map}
 use native.Mathlib.Omega.{arith}
 use native.Mathlib.Nat.{zero-add, mul-add, mul-zero}
+use native.Mathlib.Numerals.{add-one}
 use lib.Dec.{ltb}
-use lib.ListN.{length, getD, take}
-use lib.Seq.{take-suc}
+use lib.ListN.{length, getD, take, drop}
+use lib.Seq.{take-suc, drop-cons}
 use borrow.Author.Tests.{lt-ltb}
 use Rattle.lists.specs.Sums.{total, any, All, flag, count}
 use Rattle.lists.proofs.Tests.{by-test}
@@ -104,3 +105,7 @@ pub all-getD : {A : Type 0} (P : A → Type 0) (l : List A) (i : ℕ) (d : A) �
 all-getD P [] i d a h = absurd (omega arith)
 all-getD P (x ∷ l) zero d a h = a .0
 all-getD P (x ∷ l) (suc i) d a h = all-getD P l i d (a .1) (omega arith)
+
+-- the elements from place i on begin with the one at i
+pub drop-next : {A : Type 0} (l : List A) (i : ℕ) (d : A) → i < length l → drop i l ≡ getD l i d ∷ drop (i + 1) l
+drop-next l i d h = drop-cons l i d h ∙ ap (λ (j : ℕ). getD l i d ∷ drop j l) (sym (add-one i))

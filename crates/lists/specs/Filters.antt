@@ -14,7 +14,7 @@ unfoldable pub upTo : ℕ → List ℕ
 upTo zero = []
 upTo (suc n) = upTo n ++ (n ∷ [])
 
--- those that no other of the list is ahead of, in their order
+-- those that none of the list is ahead of, in their order
 unfoldable pub foremost : {A : Type 0} → (ahead : A → A → Bool) → List A → List A
 foremost ahead l = filter (λ a. not (any (λ b. ahead b a) l)) l
 

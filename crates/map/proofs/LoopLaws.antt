@@ -2,14 +2,18 @@
 use Prim.Native.Nat.{ℕ, suc, _+_, _*_, _-_, _≤_, _<_}
 use mathlib.Core.Path.{_≡_, refl, sym, ap, _∙_}
 use mathlib.Core.List.{List, _∷_}
-use mathlib.Core.Bool.{Bool, true, false, not, _&&_}
+use mathlib.Core.Bool.{Bool, true, false, cond, not, _&&_}
 use native.Mathlib.Omega.{arith}
 use native.Mathlib.Nat.{zero-add, add-zero, mul-suc}
 use native.Mathlib.Numerals.{add-one}
+use borrow.Author.Tests.{leb-true, le-leb}
+use lib.Dec.{leb}
+use Rattle.lists.proofs.Tests.{takes, both, first-of, second-of}
 use Rattle.units.specs.Sums.{largest, capped}
 use Rattle.units.proofs.Laws.{exact}
 use Rattle.map.specs.Reading.{Read, bad, good, bind, mapRead, many}
 use Rattle.map.specs.Format.{bitAt, clearFrom}
+use Rattle.map.specs.Counting.{walkable}
 use Rattle.lists.specs.Sums.{total}
 
 pub sub-step : (n j : ℕ) → j < n → n - j ≡ suc (n - (j + 1))
@@ -129,3 +133,31 @@ module _
 
     pub walk-ends : n ≤ j → good sum at ≡ mapRead (total f) (many item n 0 start)
     walk-ends h = sym (w .left ∙ rest-end item f n j at sum h)
+
+-- ---- the sizes of a walk as a test
+
+module _ (columns rows always edges : ℕ) where
+  abbrev gridTest : Bool
+  gridTest = leb columns 256 && leb rows 256
+
+  walk-passes : columns ≤ 256 → rows ≤ 256 → always ≤ 64 → edges ≤ 256 → walkable columns rows always edges ≡ true
+  unfolding walkable
+  walk-passes c r a e =
+      let grid : gridTest ≡ true = both (le-leb columns 256 c) (le-leb rows 256 r) in
+      both (both grid (le-leb always 64 a)) (le-leb edges 256 e)
+
+  -- within them the walk gives what it reads
+  pub walk-within : columns ≤ 256 → rows ≤ 256 → always ≤ 64 → edges ≤ 256 → {x : Read ℕ} (y : Read ℕ)
+      → x ≡ cond (walkable columns rows always edges) y (bad 2) → x ≡ y
+  walk-within c r a e y q = q ∙ sym (takes (bad 2) (walk-passes c r a e))
+
+  pub walk-told : walkable columns rows always edges ≡ true → (columns ≤ 256) × (rows ≤ 256) × (always ≤ 64) × (edges ≤ 256)
+  unfolding walkable
+  walk-told t =
+      let three = first-of (gridTest && leb always 64) (leb edges 256) t in
+      let grid = first-of gridTest (leb always 64) three in (
+        leb-true columns 256 (first-of (leb columns 256) (leb rows 256) grid),
+        leb-true rows 256 (second-of (leb columns 256) (leb rows 256) grid),
+        leb-true always 64 (second-of gridTest (leb always 64) three),
+        leb-true edges 256 (second-of (gridTest && leb always 64) (leb edges 256) t),
+      )

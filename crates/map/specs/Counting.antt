@@ -3,6 +3,7 @@
 use Prim.Native.Nat.{ℕ, _+_, _*_, _/_}
 use mathlib.Core.List.{List}
 use mathlib.Core.Bool.{Bool, _&&_}
+use lib.Dec.{leb}
 use lib.IntN.{ℤ, pos}
 use lib.ListN.{length, getD}
 use lib.Signed.{leZ, ltZ}
@@ -34,3 +35,7 @@ rowPeople always edges = total (placePeople always edges)
 
 abbrev pub gridPeople : (always : ℕ) (edges : List ℤ) → List (List Place) → ℕ
 gridPeople always edges = total (rowPeople always edges)
+
+-- the sizes that a walk takes, for which its sums are exact: 256 columns and rows, 64 times always, and the 256 edges of 64 boxes
+unfoldable pub walkable : (columns rows always edges : ℕ) → Bool
+walkable columns rows always edges = leb columns 256 && leb rows 256 && leb always 64 && leb edges 256

@@ -1,4 +1,4 @@
-// What the crates above read of a map: cells, places, rows and areas from a position. No way in for users.
+// What the crates above read of a map from a position: areas, and the people in their rows. No way in for users.
 use super::Area;
 use super::Cell;
 use super::Fault;
@@ -7,11 +7,12 @@ use super::fields::Coordinate;
 use super::fields::Field;
 use units::People;
 ghost use mathlib.Core.Path.{_≡_};
+ghost use mathlib.Core.Bool.{cond};
 ghost use Prim.Native.Nat.{_+_, _*_, _-_, _/_, _≤_, _<_};
 ghost use lib.ListN.{length};
-ghost use Rattle.map.specs.Reading.{many, mapRead};
+ghost use Rattle.map.specs.Reading.{bad, many, mapRead};
 ghost use Rattle.map.specs.Format.{bitAt, clearFrom, readCell, readPlace, readRow, readRows, readHead, readBody, readArea};
-ghost use Rattle.map.specs.Counting.{boxCovers, boxesOver, placePeople, rowPeople, gridPeople};
+ghost use Rattle.map.specs.Counting.{boxCovers, boxesOver, placePeople, rowPeople, gridPeople, walkable};
 ghost use Rattle.lists.specs.Sums.{flag};
 ghost use Rattle.map.specs.Answers.{cellMeans, cellPeople, placeMeans, placeCount, tallyMeans, tallyPeople};
 ghost use Rattle.map.specs.Answers.{headOf, headMeans, headWithin, summary, areaMeans};
@@ -56,7 +57,7 @@ pub enum AreaRead {
 }
 
 // The cell at a position.
-pub fn cell_at(s: &[u8], at: usize) -> CellRead
+fn cell_at(s: &[u8], at: usize) -> CellRead
     ensures { λ r. ⌜ (cellMeans r ≡ readCell (now (s .entry)) at) × (cellPeople r ≤ 1000000) ⌝ }
 {
     match fields::u32_field(s, at, 0, 1000000) {
@@ -87,7 +88,7 @@ fn bit(s: &[u8], bits: usize, j: usize) -> bool
 }
 
 // What stands at column j of the row whose bit map starts at bits.
-pub fn place_at(s: &[u8], bits: usize, j: usize, at: usize) -> PlaceRead
+fn place_at(s: &[u8], bits: usize, j: usize, at: usize) -> PlaceRead
     requires { ⌜ bits + j / 8 < length (now s) ⌝ }
     ensures { λ r. ⌜ (placeMeans r ≡ readPlace (now (s .entry)) bits j at) × (placeCount r ≤ 1000000) ⌝ }
 {
@@ -215,7 +216,7 @@ fn row(s: &[u8], columns: usize, at: usize, always: u32, edges: &[i32]) -> Tally
 }
 
 // The walk over an area's cells: the people of each, counted always times and once more for each box that covers them. With
-// always 1 and no box it gives the population.
+// always 1 and no box it gives the population. Sizes above what a map or a register has are refused, so every sum is exact.
 pub fn people_in(
     s: &[u8],
     columns: usize,
@@ -224,6 +225,20 @@ pub fn people_in(
     always: u32,
     edges: &[i32],
 ) -> Tally
+    ensures { λ r. ⌜
+        tallyMeans r
+        ≡ cond (walkable columns rows always (length (now (edges .entry))))
+        (mapRead (gridPeople always (now (edges .entry))) (readRows (now (s .entry)) columns rows start)) (bad 2)
+        ⌝ }
+{
+    if (columns <= 256) & (rows <= 256) & (always <= 64) & (edges.len() <= 256) {
+        return walk(s, columns, rows, start, always, edges);
+    }
+    Tally::Bad(Fault::Limit)
+}
+
+// The walk itself, one row a turn.
+fn walk(s: &[u8], columns: usize, rows: usize, start: usize, always: u32, edges: &[i32]) -> Tally
     requires { ⌜ (columns ≤ 256) × (rows ≤ 256) × (always ≤ 64) × (length (now edges) ≤ 256) ⌝ }
     ensures { λ r. ⌜
         (tallyMeans r ≡ mapRead (gridPeople always (now (edges .entry))) (readRows (now (s .entry)) columns rows start))
@@ -281,7 +296,7 @@ fn area_from(s: &[u8], h: Head, start: usize) -> AreaRead
     ensures { λ r. ⌜ areaMeans r ≡ mapRead summary (readBody (now (s .entry)) (headOf h) start) ⌝ }
 {
     let edges = [0i32; 4];
-    match people_in(s, h.columns, h.rows, start, 1, &edges[..0]) {
+    match walk(s, h.columns, h.rows, start, 1, &edges[..0]) {
         Tally::Bad(f) => AreaRead::Bad(f),
         Tally::Good(population, end) => {
             if !People(1).at_most(population) {

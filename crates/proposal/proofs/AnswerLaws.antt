@@ -6,10 +6,14 @@ use mathlib.Core.List.{List, [], _∷_, map}
 use lib.Dec.{eqb}
 use lib.ListN.{length, take, drop, replicate}
 use borrow.Author.Tests.{lt-ltb}
+use Rattle.lists.specs.Sums.{All}
+use Rattle.lists.proofs.Tests.{takes}
 use Rattle.coverage.specs.declared.Holding.{Holding}
+use Rattle.coverage.specs.Limits.{Limits}
 use Rattle.search.specs.declared.Answer.{Answer}
 use Rattle.search.specs.Choice.{Mark, cap}
-use Rattle.search.specs.Proposal.{propose}
+use Rattle.search.specs.Proposal.{propose, inLimits, noAnswer}
+use Rattle.search.proofs.LimitLaws.{limits-pass}
 use Rattle.proposal.specs.declared.AreaAnswer.{AreaAnswer}
 use Rattle.proposal.specs.declared.Outcome.{Outcome}
 use Rattle.proposal.specs.declared.Partials.{Partials}
@@ -31,7 +35,7 @@ use Rattle.proposal.proofs.BestLaws.{
   kind-found,
   kind-same,
 }
-use Rattle.proposal.proofs.GatherLaws.{fits}
+use Rattle.proposal.proofs.GatherLaws.{fits, search-limits}
 use Rattle.proposal.proofs.Theorems.{proposed-is}
 
 -- "12: more than 20 partial areas"
@@ -60,9 +64,15 @@ module _ (areas : List Holding) (draw : ℕ) (p : Partials) (g : Gathered areas 
   abbrev answer : Answer
   answer = found s draw (fits areas)
 
-  -- the search is asked about S
-  pub asked : propose (p .target .0) (take (p .count) (p .sizes)) (take (p .count) (p .weights)) draw ≡ answer
-  asked = λ i. propose (g .target i) (g .sizes i) (g .weights i) draw
+  -- the search is asked about S, which is within its limits
+  pub asked : All Limits areas → length s ≤ 20
+      → cond (inLimits (take (p .count) (p .sizes)) (take (p .count) (p .weights)))
+      (propose (p .target .0) (take (p .count) (p .sizes)) (take (p .count) (p .weights)) draw) noAnswer
+      ≡ answer
+  asked l few =
+      sym (takes noAnswer
+      (limits-pass (take (p .count) (p .sizes)) (take (p .count) (p .weights)) (search-limits areas l few p g)))
+      ∙ (λ i. propose (g .target i) (g .sizes i) (g .weights i) draw)
 
   -- the entry that it finds has a size, and the white space is inside it
   pub share-asks : (a : Answer) → a ≡ answer

@@ -10,7 +10,7 @@ use native.Mathlib.Omega.{arith}
 use lib.Dec.{leb, eqb}
 use lib.ListN.{length, getD, length-map, List·getD-map}
 use borrow.Author.Tests.{eq-eqb, ne-eqb}
-use Rattle.lists.specs.Sums.{any}
+use Rattle.lists.specs.Sums.{total, any}
 use Rattle.lists.specs.Filters.{filter, upTo}
 use Rattle.lists.proofs.Tests.{same-test}
 use Rattle.lists.proofs.FilterLaws.{mem-filter, filter-mem, any-some, some-any, filter-append, mem-foremost, foremost-mem}
@@ -20,7 +20,7 @@ use Rattle.coverage.specs.Blocks.{size}
 use Rattle.search.specs.declared.Answer.{Answer}
 use Rattle.search.specs.declared.Rank as searched
 use Rattle.search.specs.Choice as choice
-use Rattle.search.specs.Choice.{Mark, parts, entry, number, cap, heft, Allowed, rankOf, Best, sum}
+use Rattle.search.specs.Choice.{Mark, parts, entry, number, cap, heft, Allowed, rankOf, Best}
 use Rattle.search.specs.Proposal.{table, rankAt, bestAt, tiedTo, pick, answerAt, propose}
 use Rattle.search.proofs.Optimal.{Right, allowed-within, from, of-bestAt, to-bestAt, best-choice, best-entry, tied-best, at-place}
 use Rattle.search.proofs.Greedy.{always-right}
@@ -199,7 +199,7 @@ module _ (s : List Holding) where
 
 -- ---- the choice that wins, for an S whose T is no more than the sum of its sizes
 
-module _ (s : List Holding) (draw : ℕ) (fits : totalValue s ≤ sum (sizes s)) where
+module _ (s : List Holding) (draw : ℕ) (fits : totalValue s ≤ total (λ m. m) (sizes s)) where
   -- what the search answers
   abbrev pub found : Answer
   found = propose (totalValue s) (sizes s) (weights s) draw

@@ -8,31 +8,27 @@ use native.Mathlib.Numerals.{add-one}
 use native.Mathlib.Omega.{arith}
 use lib.Dec.{ltb, leb}
 use lib.ListN.{length, getD, take, drop, set, length-set, length-map, drop-of-length-le}
-use lib.Seq.{take-suc-set, drop-cons, getD-take, length-take-le}
+use lib.Seq.{take-suc-set, getD-take, length-take-le}
 use borrow.Author.Tests.{leb-false, lt-ltb, le-ltb}
-use Rattle.lists.specs.Sums.{All}
+use Rattle.lists.specs.Sums.{total, All}
 use Rattle.lists.specs.Filters.{filter}
 use Rattle.lists.proofs.Tests.{by-test, not-both}
-use Rattle.lists.proofs.SumLaws.{all-getD}
+use Rattle.lists.proofs.SumLaws.{all-getD, drop-next}
 use Rattle.coverage.specs.declared.Holding.{Holding}
 use Rattle.units.specs.Sums.{capped}
 use Rattle.units.proofs.Laws.{exact}
 use Rattle.coverage.specs.declared.AreaBlocks.{AreaBlocks}
 use Rattle.coverage.specs.Blocks.{remainder, roundsUp, partial, value, size, blocksOf}
-use Rattle.coverage.specs.Limits.{Limits}
-use Rattle.coverage.specs.Answers.{noHolding}
-use Rattle.coverage.proofs.BlockLaws.{partial-sized}
-use Rattle.search.specs.Choice.{largestSize, largestWeight, sum}
+use Rattle.coverage.specs.Limits.{Limits, inLimits}
+use Rattle.coverage.specs.Answers.{noBlocks, noHolding}
+use Rattle.coverage.proofs.BlockLaws.{blocks-exact, partial-sized, value-small, size-small}
+use Rattle.search.specs.Choice.{largestSize, largestWeight}
 use Rattle.search.specs.Proposal as searched
 use Rattle.proposal.specs.declared.Partials.{Partials}
 use Rattle.proposal.specs.Choices.{partials, totalValue}
 use Rattle.proposal.specs.Code.{sizes, weights, Bounded, Gathered}
 
 -- ---- a partial area's value is below its size
-
-pub size-small : (a : Holding) → Limits a → size a ≤ largestSize
-unfolding size
-size-small a l = omega (arith, mul-assoc 100 (a .weight) (a .population .0), mul-le-mul (l .light) (l .small))
 
 partial-below : (a : Holding) → partial a ≡ true → 50 * remainder a < 99 * a .population .0
 unfolding partial roundsUp
@@ -53,9 +49,6 @@ value-below a h =
       mul-le-mul w r,
       mul-left-comm (a .weight) 2 (a .population .0),
     )
-
-pub value-small : (a : Holding) → Limits a → partial a ≡ true → value a ≤ largestSize
-value-small a l h = omega (arith, value-below a h, size-small a l)
 
 -- ---- S, one area after another
 
@@ -80,8 +73,8 @@ unfolding totalValue
 total-none = refl
 
 -- no value is above its size, so T is at most the sum of the sizes
-pub fits : (areas : List Holding) → totalValue (partials areas) ≤ sum (sizes (partials areas))
-unfolding totalValue sum
+pub fits : (areas : List Holding) → totalValue (partials areas) ≤ total (λ m. m) (sizes (partials areas))
+unfolding totalValue
 fits [] = rw partials-none (omega arith)
 fits (a ∷ areas) =
     by-test (partial a)
@@ -100,7 +93,7 @@ within-limits (a ∷ areas) l j =
     (λ t. rw (partials-no a areas t) (within-limits areas (l .1) j))
   where
     at : (j : ℕ) → ((k : ℕ) → Within (partials areas) k) → Within (a ∷ partials areas) j
-    at zero later = (size-small a (l .0), l .0 .light)
+    at zero later = (size-small (l .0), l .0 .light)
     at (suc k) later = later k
 
 pub search-limits : (areas : List Holding) → All Limits areas → length (partials areas) ≤ 20 → (r : Partials) → Gathered areas r
@@ -142,16 +135,22 @@ module _ {areas : List Holding} {count : ℕ} (b : Bounded areas count) where
   at-place : {i : ℕ} → i < count → getD (take count areas) i noHolding ≡ getD areas i noHolding
   at-place {i} h = getD-take count areas i noHolding h
 
-  pub limits-at : {i : ℕ} → i < count → Limits (getD areas i noHolding)
+  limits-at : {i : ℕ} → i < count → Limits (getD areas i noHolding)
   limits-at {i} h =
       subst Limits (at-place h) (all-getD Limits (take count areas) i noHolding (b .limits) (omega (arith, all-given)))
+
+  -- so the blocks of the area at place i are those of the definition
+  pub blocks-at : {i : ℕ} → i < count → {x : AreaBlocks}
+      → x ≡ cond (inLimits (getD areas i noHolding)) (blocksOf (getD areas i noHolding)) noBlocks
+      → x ≡ blocksOf (getD areas i noHolding)
+  blocks-at h e = blocks-exact (limits-at h) e
 
   -- the areas from place i on begin with the one at i
   pub from-place : {i : ℕ} → i < count
       → drop i (take count areas) ≡ getD areas i noHolding ∷ drop (i + 1) (take count areas)
   from-place {i} h =
-      drop-cons (take count areas) i noHolding (omega (arith, all-given))
-      ∙ (λ j. at-place h j ∷ drop (sym (add-one i) j) (take count areas))
+      drop-next (take count areas) i noHolding (omega (arith, all-given))
+      ∙ ap (λ (a : Holding). a ∷ drop (i + 1) (take count areas)) (at-place h)
 
   -- the area is partial exactly if its blocks have a size
   pub sized : {i : ℕ} → i < count → (x : AreaBlocks) → x ≡ blocksOf (getD areas i noHolding)
@@ -181,7 +180,7 @@ module _ {areas : List Holding} {count i n t : ℕ} {ms ks : List ℕ} (b : Boun
       let v = ap (λ l. totalValue l) e ∙ total-more here later in
       let xv : x .value .0 ≡ value here = ap (λ (y : AreaBlocks). y .value .0) of ∙ ap (λ q. cond q (value here) 0) yes in
       let xs : x .size .0 ≡ size here = ap (λ (y : AreaBlocks). y .size .0) of ∙ ap (λ q. cond q (size here) 0) yes in
-      let small = value-small here (limits-at b h) yes in
+      let small = value-small (limits-at b h) in
       let few = b .few in
       let low = g .low in
       let added : t′ ≡ t + value here = sum ∙ ap (λ m. capped (t + m)) xv ∙ exact (t + value here) (omega arith) in

@@ -1,3 +1,4 @@
+-- Document 01, "The proposal": the theorems, what joins the search to the definitions, and the laws of the loops.
 pub mod HandCounts
 pub mod ChoiceLaws
 pub mod RankLaws

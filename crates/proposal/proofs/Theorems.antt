@@ -31,7 +31,7 @@ use Rattle.proposal.specs.Answer.{
   proposal,
 }
 use Rattle.proposal.specs.Demand.{asMark, asChoice, AllowedFrom, LevelOrBehind, AllWhole, Right, Wins}
-use Rattle.proposal.proofs.ChoiceLaws.{same-entry}
+use Rattle.proposal.proofs.ChoiceLaws.{part-entry, none-entry, same-entry}
 use Rattle.proposal.proofs.RankLaws.{to-allowed, of-allowed}
 use Rattle.proposal.proofs.BestLaws.{compare-same, to-best, in-best, chosen-best, chosen-length, chosen-drawn, chosen-least}
 use Rattle.proposal.proofs.GatherLaws.{fits}
@@ -107,7 +107,7 @@ module _ (areas : List Holding) (draw : ℕ) where
           (some-any (makesPart p) (best s) (x .1 .0) (x .1 .1) (x .1 .2)),
     );
     tied-count = count-filter test (length s);
-    exact = λ h. no-ties (tied s) h in-drawn;
+    exact = (λ h. none (tied s) h in-drawn, λ h. no-ties (tied s) h in-drawn);
     drawn = λ h. ties (tied s) h in-drawn;
     least = λ d m e. chosen-least s draw (fits areas) d (to-best s d m)
         (same-entry d c (to-best s d m .allowed .one) (chosen-best s draw (fits areas) .allowed .one) e);
@@ -122,6 +122,16 @@ module _ (areas : List Holding) (draw : ℕ) where
       no-ties : (l : List ℕ) → length l ≡ 0 → List·Memᴰ c (drawn l draw (best s)) → noPart c ≡ true
       no-ties [] h m = mem-filter noPart (best s) c m .1
       no-ties (p ∷ l) h m = absurd (omega arith)
+
+      -- no place is partial in an exact choice
+      none : (l : List ℕ) → noPart c ≡ true → List·Memᴰ c (drawn l draw (best s)) → length l ≡ 0
+      none [] h m = refl
+      none (p ∷ l) h m =
+          let one = chosen-best s draw (fits areas) .allowed .one in
+          let q = getD (p ∷ l) (draw % length (p ∷ l)) 0 in
+          let at = part-entry c one q .0 (mem-filter (makesPart q) (best s) c m .1) in
+          let z = none-entry c one .0 h in
+          absurd (omega arith)
 
       ties : (l : List ℕ) → 0 < length l → List·Memᴰ c (drawn l draw (best s)) → makesPart (getD l (draw % length l) 0) c ≡ true
       ties [] h m = absurd (omega arith)

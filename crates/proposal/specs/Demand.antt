@@ -53,8 +53,8 @@ pub record Wins (s : List Holding) (draw : ℕ) (c : List Mark) : Type 0 where
   pub tied-areas : (p : ℕ) →
       List·Memᴰ p (tied s) ↔ ((p < length s) × ((d : List Mark) × List·Memᴰ d (best s) × (makesPart p d ≡ true)))
   pub tied-count : length (tied s) ≡ count (λ p. any (makesPart p) (best s)) (length s)
-  -- "an exact answer has 0 of them", and else the partial area is "the area at place draw mod tied"
-  pub exact : length (tied s) ≡ 0 → noPart c ≡ true
+  -- "an exact answer has 0 of them", and no other has; else the partial area is "the area at place draw mod tied"
+  pub exact : (noPart c ≡ true) ↔ (length (tied s) ≡ 0)
   pub drawn : 0 < length (tied s) → makesPart (getD (tied s) (draw % length (tied s)) 0) c ≡ true
   -- "Among best choices with that area, or among exact ones, the smallest set number wins"
   pub least : (d : List Mark) → List·Memᴰ d (best s) → ((p : ℕ) → makesPart p d ≡ makesPart p c) → setNumber c ≤ setNumber d

@@ -3,7 +3,6 @@ use coverage::Holding;
 use map::Checked;
 use map::Fault;
 use register::Register;
-use search::Answer;
 use units::Weighted;
 ghost use mathlib.Core.Path.{_≡_};
 ghost use mathlib.Core.Bool.{cond};
@@ -12,7 +11,6 @@ ghost use lib.ListN.{length, take};
 ghost use Rattle.map.specs.Format.{readMap};
 ghost use Rattle.register.specs.Licences.{inForce};
 ghost use Rattle.search.specs.Choice.{cap};
-ghost use Rattle.search.specs.Proposal.{Limits, propose};
 ghost use Rattle.proposal.specs.Answer.{getsBy, getsNothing, refusedBy, proposal, proposalOn};
 ghost use Rattle.proposal.specs.Contracts.{getsMeans, refusalNumber, kindNumber, Answers};
 ghost use Rattle.proposal.specs.Code.{Bounded, Gathered, markOf, outcomeOf, Settled};
@@ -127,38 +125,22 @@ fn refused(outcome: Outcome) -> Proposal
     }
 }
 
-// The search, with tables of its own.
-fn offer(sizes: &[u64], weights: &[u64], target: u64, draw: u32) -> Answer
-    requires { ⌜ Limits (now sizes) (now weights) ⌝ }
-    ensures { λ r. ⌜ r ≡ propose target (now (sizes .entry)) (now (weights .entry)) draw ⌝ }
-{
-    let mut white = [0u64; 21];
-    let mut least = [0u32; 21];
-    let n = sizes.len() + 1;
-    search::propose(
-        sizes,
-        weights,
-        target,
-        draw,
-        &mut white[..n],
-        &mut least[..n],
-    )
-}
-
 // The share of the partial area at an entry, or 0 if there is none.
-fn share_at(sizes: &[u64], entry: usize, white: u64) -> u64
+fn share_at(sizes: &[u64], entry: usize, white: u64) -> Weighted
     requires { ⌜ (entry ≤ length (now sizes)) × (white ≤ cap (now sizes) entry) ⌝ }
-    ensures { λ r. ⌜ r ≡ cap (now (sizes .entry)) entry - white ⌝ }
+    ensures { λ r. ⌜ r .0 ≡ cap (now (sizes .entry)) entry - white ⌝ }
 {
     if entry == 0 {
-        return 0;
+        return Weighted(0);
     }
-    sizes[entry - 1] - white
+    let size = sizes[entry - 1];
+    let share = size - white;
+    Weighted(share)
 }
 
 // What an area gets, by the entry and the set number that are left: it is the partial one at entry 1, and whole at an odd number.
-fn gets_at(partial: bool, kind: u64, share: u64, entry: usize, number: u32) -> Gets
-    ensures { λ r. ⌜ getsMeans r ≡ cond partial (getsBy kind share (markOf entry number)) getsNothing ⌝ }
+fn gets_at(partial: bool, kind: u64, share: Weighted, entry: usize, number: u32) -> Gets
+    ensures { λ r. ⌜ getsMeans r ≡ cond partial (getsBy kind (share .0) (markOf entry number)) getsNothing ⌝ }
 {
     if !partial {
         return Gets::Nothing;
@@ -167,7 +149,7 @@ fn gets_at(partial: bool, kind: u64, share: u64, entry: usize, number: u32) -> G
         if kind == 2 {
             return Gets::RoundedUp;
         }
-        return Gets::Share(Weighted(share));
+        return Gets::Share(share);
     }
     if number % 2 == 1 {
         return Gets::Whole;
@@ -233,12 +215,12 @@ fn settle(
     areas: [Holding; 32],
     count: usize,
     kind: u64,
-    share: u64,
+    share: Weighted,
     entry: usize,
     number: u32,
 ) -> [AreaAnswer; 32]
     requires { ⌜ Bounded areas count ⌝ }
-    ensures { λ r. ⌜ Settled (take count areas) kind share entry number r ⌝ }
+    ensures { λ r. ⌜ Settled (take count areas) kind (share .0) entry number r ⌝ }
 {
     let mut given = [AreaAnswer::NONE; 32];
     let mut e = entry;
@@ -275,7 +257,7 @@ fn propose_from(areas: [Holding; 32], count: usize, draw: u32) -> Proposal
     let sizes = partials.sizes;
     let weights = partials.weights;
     let target = partials.target;
-    let found = offer(&sizes[..n], &weights[..n], target.0, draw);
+    let found = search::propose(&sizes[..n], &weights[..n], target.0, draw);
     let share = share_at(&sizes[..n], found.entry, found.white);
     let outcome = Outcome::of_kind(found.kind);
     let given = settle(areas, count, found.kind, share, found.entry, found.number);

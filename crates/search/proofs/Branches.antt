@@ -9,8 +9,9 @@ use native.Mathlib.Numerals.{add-one}
 use native.Mathlib.Omega.{arith}
 use lib.Dec.{leb, eqb}
 use lib.ListN.{length, getD, drop}
-use lib.Seq.{drop-cons, drop-length}
+use lib.Seq.{drop-length}
 use borrow.Author.Tests.{le-leb, lt-leb, eq-eqb, ne-eqb}
+use Rattle.lists.proofs.SumLaws.{drop-next}
 use Rattle.search.specs.Search.{Kept, Pos, note, noteAt, noteAll, positions, searched, Ready}
 
 -- all areas decided: the choice is noted
@@ -67,7 +68,7 @@ search-next sizes at left e s bit k k₁ k₂ k₃ h p q r =
     ms = drop (at + 1) sizes
 
     rest : drop at sizes ≡ m ∷ ms
-    rest = drop-cons sizes at 0 h ∙ ap (λ (j : ℕ). m ∷ drop j sizes) (sym (add-one at))
+    rest = drop-next sizes at 0 h
 
     whole : List Pos
     whole = cond (leb m left) (positions ms (at + 1) (left - m) e (s + bit) (bit * 2)) []

@@ -8,7 +8,8 @@ use native.Mathlib.Omega.{arith}
 use lib.Dec.{ltb, leb}
 use lib.ListN.{length, getD}
 use borrow.Author.Tests.{leb-true, leb-false, ltb-true, ltb-false}
-use Rattle.search.specs.Choice.{Mark, out, whole, part, wholes, parts, entryFrom, entry, cap, Allowed, outs, greedy, sum}
+use Rattle.lists.specs.Sums.{total}
+use Rattle.search.specs.Choice.{Mark, out, whole, part, wholes, parts, entryFrom, entry, cap, Allowed, outs, greedy}
 use Rattle.search.specs.Proposal.{propose}
 use Rattle.search.proofs.Optimal.{Right, propose-right}
 
@@ -34,8 +35,8 @@ record Meets (ms : List ℕ) (left : ℕ) (c : List Mark) : Type 0 where
   proper : (((at : ℕ) → entryFrom at 0 c ≡ 0) × (left - wholes ms c ≡ 0))
       ⊎ ((j : ℕ) × ((at : ℕ) → entryFrom at 0 c ≡ at + suc j) × (0 < left - wholes ms c) × (left - wholes ms c < getD ms j 0))
 
-greedy-meets : (ms : List ℕ) (left : ℕ) → left ≤ sum ms → Meets ms left (greedy ms left)
-unfolding greedy sum parts wholes entryFrom
+greedy-meets : (ms : List ℕ) (left : ℕ) → left ≤ total (λ m. m) ms → Meets ms left (greedy ms left)
+unfolding greedy parts wholes entryFrom
 greedy-meets [] left h = record {
   each = refl;
   one = omega arith;
@@ -47,7 +48,7 @@ greedy-meets (m ∷ ms) left h = go (λ l. greedy-meets ms (left - m) l) (leb m 
     o : Out ms (outs ms)
     o = outs-out ms
 
-    go : (left - m ≤ sum ms → Meets ms (left - m) (greedy ms (left - m))) → (a b : Bool) → leb m left ≡ a → ltb 0 left ≡ b
+    go : (left - m ≤ total (λ m. m) ms → Meets ms (left - m) (greedy ms (left - m))) → (a b : Bool) → leb m left ≡ a → ltb 0 left ≡ b
         → Meets (m ∷ ms) left (cond a (whole ∷ greedy ms (left - m)) (cond b (part ∷ outs ms) (out ∷ outs ms)))
     go rec true b p q = let r = rec (omega arith) in record {
       each = omega (arith, r .each);
@@ -76,7 +77,7 @@ greedy-meets (m ∷ ms) left h = go (λ l. greedy-meets ms (left - m) l) (leb m 
       proper = inl (λ at. o .same (at + 1) 0, omega (arith, o .nothing, ltb-false 0 left q));
     }
 
-pub greedy-allowed : (T : ℕ) (ms : List ℕ) → T ≤ sum ms → Allowed T ms (greedy ms T)
+pub greedy-allowed : (T : ℕ) (ms : List ℕ) → T ≤ total (λ m. m) ms → Allowed T ms (greedy ms T)
 greedy-allowed T ms h = let r = greedy-meets ms T h in record {
   each = r .each;
   one = r .one;
@@ -89,5 +90,5 @@ greedy-allowed T ms h = let r = greedy-meets ms T h in record {
 }
 
 -- so the answer is right whatever the areas, as no v is above its M
-pub always-right : (T : ℕ) (ms ws : List ℕ) (draw : ℕ) → T ≤ sum ms → Right T ms ws (propose T ms ws draw)
+pub always-right : (T : ℕ) (ms ws : List ℕ) (draw : ℕ) → T ≤ total (λ m. m) ms → Right T ms ws (propose T ms ws draw)
 always-right T ms ws draw h = propose-right T ms ws (greedy ms T) (greedy-allowed T ms h) draw

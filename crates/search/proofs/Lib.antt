@@ -8,3 +8,4 @@ pub mod Select
 pub mod Tables
 pub mod Greedy
 pub mod Inner
+pub mod LimitLaws

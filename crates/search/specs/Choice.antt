@@ -130,7 +130,3 @@ unfoldable pub greedy : List ℕ → ℕ → List Mark
 greedy [] left = []
 greedy (m ∷ ms) left =
     cond (leb m left) (whole ∷ greedy ms (left - m)) (cond (ltb 0 left) (part ∷ outs ms) (out ∷ outs ms))
-
-unfoldable pub sum : List ℕ → ℕ
-sum [] = 0
-sum (m ∷ ms) = m + sum ms

@@ -1,9 +1,9 @@
 -- Document 01, "The proposal": the answer that the tables of the search give. Assumes nothing.
 use Prim.Native.Nat.{ℕ, zero, suc, _+_, _%_, _≤_}
 use mathlib.Core.Path.{_≡_}
-use mathlib.Core.Bool.{Bool, true, false, cond}
+use mathlib.Core.Bool.{Bool, true, false, cond, _&&_}
 use mathlib.Core.List.{List, [], _∷_, _++_}
-use lib.Dec.{ltb, eqb}
+use lib.Dec.{ltb, leb, eqb}
 use lib.ListN.{length, getD, take, replicate}
 use Rattle.search.specs.declared.Rank.{Rank}
 use Rattle.search.specs.declared.Answer.{Answer}
@@ -72,6 +72,22 @@ propose T ms ws draw =
     let k = table T ms in
     let ts = tiedTo ms ws (k .white) (length ms) in
     answerAt ms ws k (length ts) (pick ts draw)
+
+-- ---- sizes and weights that no map gives
+
+-- each value is at most a bound
+unfoldable pub atMost : ℕ → List ℕ → Bool
+atMost most [] = true
+atMost most (m ∷ ms) = leb m most && atMost most ms
+
+-- the limits below, as a test: at most 20 areas, as many weights as sizes, and each of them within "The map"
+unfoldable pub inLimits : List ℕ → List ℕ → Bool
+inLimits ms ws =
+    leb (length ms) 20 && (eqb (length ws) (length ms) && (atMost largestSize ms && atMost largestWeight ws))
+
+-- what is answered past the limits; no answer to a proposal has the kind 0
+unfoldable pub noAnswer : Answer
+noAnswer = record { kind = 0; white = 0; tied = 0; entry = 0; number = 0 }
 
 -- ---- what the functions ask of one another
 

@@ -5,13 +5,13 @@
 // The search keeps an entry for each partial area, and entry 0 for exact choices: the least white space, and at that white space
 // the smallest set number. With one partial area rank goes by white space alone, so the rest is decided on the entries afterwards.
 ghost use mathlib.Core.Path.{_≡_};
-ghost use mathlib.Core.Bool.{true};
+ghost use mathlib.Core.Bool.{true, cond};
 ghost use Prim.Native.Nat.{_+_, _≤_, _<_};
 ghost use lib.ListN.{length, take};
 ghost use Rattle.search.specs.Search.{asKept, asHeld, lesser, leafHeld, withinHeld, searched, Room, Ready};
 ghost use Rattle.search.specs.Choice.{rankOf, ahead, largestSize, largestWeight};
 ghost use Rattle.search.specs.Proposal.{start, present, rankAt, clear, bestAt, pick, kindAt, answerAt, propose};
-ghost use Rattle.search.specs.Proposal.{Ranked, Limits, Tables, Tied};
+ghost use Rattle.search.specs.Proposal.{Ranked, Limits, Tables, Tied, atMost, inLimits, noAnswer};
 
 // How a choice ranks: far is 0 if it is all-whole, else 1; its white space; the weight of its partial area.
 pub struct Rank {
@@ -316,7 +316,7 @@ fn answer_at(
 }
 
 // The answer for the partial areas, over two tables that the caller lends: an entry for each area and one more.
-pub fn propose(
+fn propose_over(
     sizes: &[u64],
     weights: &[u64],
     target: u64,
@@ -334,4 +334,61 @@ pub fn propose(
     let count = ties.count;
     let t = pick(ties, draw);
     answer_at(sizes, weights, white, least, count, t)
+}
+
+// Whether each value is at most a bound.
+fn all_at_most(values: &[u64], most: u64) -> bool
+    ensures { λ r. ⌜ r ≡ atMost most (now (values .entry)) ⌝ }
+{
+    let mut i: usize = 0;
+    while i < values.len() {
+        if most < values[i] {
+            return false;
+        }
+        i += 1;
+    }
+    true
+}
+
+// Whether the areas are as few, and their sizes and weights as small, as a map's partial areas that are not refused.
+fn in_limits(sizes: &[u64], weights: &[u64]) -> bool
+    ensures { λ r. ⌜ r ≡ inLimits (now (sizes .entry)) (now (weights .entry)) ⌝ }
+{
+    if 20 < sizes.len() {
+        return false;
+    }
+    if weights.len() != sizes.len() {
+        return false;
+    }
+    if !all_at_most(sizes, 262140000000000) {
+        return false;
+    }
+    all_at_most(weights, 65535)
+}
+
+// The answer for the partial areas, with tables of its own; all fields are 0 where the areas are not within the limits.
+pub fn propose(sizes: &[u64], weights: &[u64], target: u64, draw: u32) -> Answer
+    ensures { λ r. ⌜ r ≡ cond (inLimits (now (sizes .entry)) (now (weights .entry)))
+        (propose target (now (sizes .entry)) (now (weights .entry)) draw) noAnswer ⌝ }
+{
+    if !in_limits(sizes, weights) {
+        return Answer {
+            kind: 0,
+            white: 0,
+            tied: 0,
+            entry: 0,
+            number: 0,
+        };
+    }
+    let mut white = [0u64; 21];
+    let mut least = [0u32; 21];
+    let n = sizes.len() + 1;
+    propose_over(
+        sizes,
+        weights,
+        target,
+        draw,
+        &mut white[..n],
+        &mut least[..n],
+    )
 }

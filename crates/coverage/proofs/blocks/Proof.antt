@@ -10,6 +10,7 @@ use Rattle.coverage.specs.declared.AreaBlocks.{AreaBlocks}
 use Rattle.coverage.specs.Cover.{holdingOf}
 use Rattle.coverage.specs.Blocks.{blocksOf}
 use Rattle.coverage.specs.Answers.{answers, noBlocks, blocksAt}
+use Rattle.coverage.proofs.BlockLaws.{blocks-exact}
 use Rattle.coverage.proofs.LookLaws.{made-refused, made-lacking, made-of, rows-within, area-holding, area-limits}
 use Rattle.coverage.proofs.blocks.Statement.{statement}
 use Rattle.coverage.proofs.blocks.Tie as tie
@@ -46,10 +47,7 @@ holding-in-requires c κs =
     (w .0, w .1, c .boxes .ensures)
 
 blocks-of-requires : tie.Need-blocks-of-requires
-blocks-of-requires c κs =
-    let start = c .before .before .before .before .before .before .before in
-    let st = found (c .before) .stands in
-    area-limits (st .holds) (st .handed) (inForce (start .args .register .places)) (c .holding-in .ensures)
+blocks-of-requires c κs = search needs
 
 returns : tie.Need-returns
 unfolding blocksAt
@@ -77,7 +75,9 @@ returns-3 c =
     let l = found (c .before .before) in
     let st = l .stands in
     let made : Area → AreaBlocks = λ x. blocksOf (holdingOf ls x) in
-    ap answers (c .blocks-of .ensures .0 ∙ ap blocksOf (c .before .holding-in .ensures ∙ area-holding (st .holds) (st .handed) ls))
+    let within = area-limits (st .holds) (st .handed) ls (c .before .holding-in .ensures) in
+    ap answers (blocks-exact within (c .blocks-of .ensures)
+    ∙ ap blocksOf (c .before .holding-in .ensures ∙ area-holding (st .holds) (st .handed) ls))
     ∙ made-of (a .number) noBlocks made l
 
 pub blocks-spec : {M : Type 1} → statement M

@@ -5,7 +5,7 @@ use lib.ListN.{take}
 use Rattle.units.specs.declared.Weighted.{Weighted}
 use Rattle.proposal.proofs.GatherLaws.{gather-as}
 use mathlib.Core.Path.{ap}
-use Rattle.proposal.proofs.GatherLaws.{limits-at, gather-takes, gather-leaves, gather-ends}
+use Rattle.proposal.proofs.GatherLaws.{blocks-at, gather-takes, gather-leaves, gather-ends}
 use Rattle.proposal.proofs.GatherLaws.{Gathering}
 use borrow.Author.Needs.{needs}
 use Rattle.proposal.proofs.gather.Statement.{statement}
@@ -27,7 +27,7 @@ array-copy-out-a : tie.Need-array-copy-out-a Inv-loop μ-loop
 array-copy-out-a c = search needs
 
 blocks-of-requires : tie.Need-blocks-of-requires Inv-loop μ-loop
-blocks-of-requires c κs = limits-at (c .before .before .before .pre) (c .before .loop-test .taken)
+blocks-of-requires c κs = search needs
 
 mul-sizes : tie.Need-mul-sizes Inv-loop μ-loop
 mul-sizes c = search needs
@@ -63,7 +63,7 @@ loop-again c =
     let c6 = c5 .before in
     let b = c6 .before .pre in
     let x = c3 .blocks-of .result in
-    let of = c3 .blocks-of .ensures .0 in
+    let of = blocks-at b (c5 .loop-test .taken) (c3 .blocks-of .ensures) in
     ⊎-elim
     (λ w. gather-as (gather-takes b (c6 .loop .inv) (c5 .loop-test .taken) x of (w .0 .taken) (w .2 .ensures))
     (w .5) (ap (λ (t : Weighted). t .0) (w .6)) (w .3) (w .4))

@@ -1,9 +1,11 @@
 -- `proposal::propose_from`: the search is asked about S, and what it finds is given to the areas. Assumes nothing.
+use Prim.Native.Nat.{_≤_}
 use mathlib.Core.Path.{refl, sym, _∙_}
 use native.Mathlib.Omega.{arith}
-use lib.ListN.{take}
+use lib.ListN.{length, take}
 use lib.Seq.{length-take-le}
-use Rattle.proposal.proofs.GatherLaws.{all-given, search-limits}
+use Rattle.proposal.specs.Choices.{partials}
+use Rattle.proposal.proofs.GatherLaws.{all-given}
 use Rattle.proposal.proofs.AnswerLaws.{too-many, asked, share-asks, proposes}
 use borrow.Author.Needs.{needs}
 use Rattle.proposal.proofs.propose_from.Statement.{statement}
@@ -26,26 +28,21 @@ returns c =
 array-share-prefix-sizes : tie.Need-array-share-prefix-sizes
 array-share-prefix-sizes c = search needs
 
-slice-aggregate-offer : tie.Need-slice-aggregate-offer
-slice-aggregate-offer c =
+slice-aggregate-propose : tie.Need-slice-aggregate-propose
+slice-aggregate-propose c =
     let g = c .before .before .before .before .before .gather in
     sym (length-take-le (g .result .count) (g .result .sizes) (omega (arith, g .ensures .few, g .ensures .size-room)))
 
 array-share-prefix-weights : tie.Need-array-share-prefix-weights
 array-share-prefix-weights c = search needs
 
-slice-aggregate-offer-2 : tie.Need-slice-aggregate-offer-2
-slice-aggregate-offer-2 c =
+slice-aggregate-propose-2 : tie.Need-slice-aggregate-propose-2
+slice-aggregate-propose-2 c =
     let g = c .before .before .before .before .before .before .gather in
     sym (length-take-le (g .result .count) (g .result .weights) (omega (arith, g .ensures .few, g .ensures .weight-room)))
 
-offer-requires : tie.Need-offer-requires
-offer-requires c κs =
-    let c6 = c .before .before .before .before .before .before in
-    let start = c6 .before in
-    let g = c6 .gather in
-    search-limits (take (start .args .count) (start .args .areas)) (start .pre .limits)
-    (omega (arith, g .ensures .count, c .before .before .before .before .before .if1 .left)) (g .result) (g .ensures)
+propose-requires : tie.Need-propose-requires
+propose-requires c κs = search needs
 
 array-share-prefix-sizes-2 : tie.Need-array-share-prefix-sizes-2
 array-share-prefix-sizes-2 c = search needs
@@ -57,12 +54,14 @@ slice-aggregate-share-at c =
 
 share-at-requires : tie.Need-share-at-requires
 share-at-requires c κs =
-    let c8 = c .before .before .before .before .before .before .before .before in
-    let a = c8 .before .args in
-    let g = c8 .gather in
+    let c7 = c .before .before .before .before .before .before .before in
+    let start = c7 .before .before in
+    let a = start .args in
+    let g = c7 .before .gather in
     let all = take (a .count) (a .areas) in
-    share-asks all (a .draw) (g .result) (g .ensures) (c .before .offer .result)
-    (c .before .offer .ensures ∙ asked all (a .draw) (g .result) (g .ensures))
+    share-asks all (a .draw) (g .result) (g .ensures) (c .before .propose .result)
+    (c .before .propose .ensures
+    ∙ asked all (a .draw) (g .result) (g .ensures) (start .pre .limits) (omega (arith, g .ensures .count, c7 .if1 .left)))
 
 of-kind-requires : tie.Need-of-kind-requires
 of-kind-requires c κs = search needs
@@ -78,10 +77,11 @@ returns-2 c =
     let a = start .args in
     let g = c10 .before .gather in
     let all = take (a .count) (a .areas) in
-    let o = c4 .offer in
-    proposes all (a .draw) (g .result) (g .ensures) (omega (arith, g .ensures .count, c10 .if1 .left))
-    (o .result) (o .ensures ∙ asked all (a .draw) (g .result) (g .ensures))
-    (c .before .before .share-at .result) (c .before .before .share-at .ensures)
+    let o = c4 .propose in
+    let few : length (partials all) ≤ 20 = omega (arith, g .ensures .count, c10 .if1 .left) in
+    proposes all (a .draw) (g .result) (g .ensures) few
+    (o .result) (o .ensures ∙ asked all (a .draw) (g .result) (g .ensures) (start .pre .limits) few)
+    (c .before .before .share-at .result .0) (c .before .before .share-at .ensures)
     (c .before .of-kind .result) (c .before .of-kind .ensures) (c .settle .result) (c .settle .ensures)
     (a .count) (sym (all-given (start .pre)))
 
@@ -93,10 +93,10 @@ propose-from-spec =
     refused-requires
     returns
     array-share-prefix-sizes
-    slice-aggregate-offer
+    slice-aggregate-propose
     array-share-prefix-weights
-    slice-aggregate-offer-2
-    offer-requires
+    slice-aggregate-propose-2
+    propose-requires
     array-share-prefix-sizes-2
     slice-aggregate-share-at
     share-at-requires

@@ -1,7 +1,7 @@
 -- `proposal::settle`: what each area is given, one area a turn. Assumes nothing.
 use Prim.Native.Nat.{_-_}
 use lib.ListN.{take}
-use Rattle.proposal.proofs.GatherLaws.{limits-at}
+use Rattle.proposal.proofs.GatherLaws.{blocks-at}
 use Rattle.proposal.proofs.SettleLaws.{settle-turns, settle-ends}
 use Rattle.proposal.proofs.SettleLaws.{Settling}
 use borrow.Author.Needs.{needs}
@@ -9,7 +9,8 @@ use Rattle.proposal.proofs.settle.Statement.{statement}
 use Rattle.proposal.proofs.settle.Tie as tie
 
 abbrev Inv-loop : tie.InvT-loop
-Inv-loop count kind share entry number areas given₀ e₀ s₀ i₀ given e s i = Settling (take count areas) kind share entry number i e s given
+Inv-loop count kind share entry number areas given₀ e₀ s₀ i₀ given e s i =
+    Settling (take count areas) kind (share .0) entry number i e s given
 
 abbrev μ-loop : tie.MeasureT-loop
 μ-loop count kind share entry number areas given₀ e₀ s₀ i₀ given e s i = count - i
@@ -24,7 +25,7 @@ array-copy-out-a : tie.Need-array-copy-out-a Inv-loop μ-loop
 array-copy-out-a c = search needs
 
 blocks-of-requires : tie.Need-blocks-of-requires Inv-loop μ-loop
-blocks-of-requires c κs = limits-at (c .before .before .before .pre) (c .before .loop-test .taken)
+blocks-of-requires c κs = search needs
 
 gets-at-requires : tie.Need-gets-at-requires Inv-loop μ-loop
 gets-at-requires c κs = search needs
@@ -53,7 +54,9 @@ loop-again c =
     let c5 = c2 .before .before .before in
     let c7 = c5 .before .before in
     let c8 = c7 .before in
-    settle-turns (c8 .before .pre) (c8 .loop .inv) (c7 .loop-test .taken) (c5 .blocks-of .result) (c5 .blocks-of .ensures .0)
+    let b = c8 .before .pre in
+    let h = c7 .loop-test .taken in
+    settle-turns b (c8 .loop .inv) h (c5 .blocks-of .result) (blocks-at b h (c5 .blocks-of .ensures))
     (c2 .gets-at .result) (c .before .entry-after .result) (c .number-after .result)
     (c2 .gets-at .ensures) (c .before .entry-after .ensures) (c .number-after .ensures)
 

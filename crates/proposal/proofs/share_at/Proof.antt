@@ -12,17 +12,17 @@ returns c =
     let z = getD-zero 0 (c .before .args .sizes .now) (c .before .args .entry) (c .if1 .taken) in
     omega arith
 
-sub-result : tie.Need-sub-result
-sub-result c = search needs
+sub-size : tie.Need-sub-size
+sub-size c = search needs
 
-mul-result : tie.Need-mul-result
-mul-result c = search needs
+mul-size : tie.Need-mul-size
+mul-size c = search needs
 
-shared-slice-read-result : tie.Need-shared-slice-read-result
-shared-slice-read-result c = search needs
+shared-slice-read-size : tie.Need-shared-slice-read-size
+shared-slice-read-size c = search needs
 
-sub-result-2 : tie.Need-sub-result-2
-sub-result-2 c =
+sub-share : tie.Need-sub-share
+sub-share c =
     let c2 = c .before .before in
     let z = getD-pred 0 (c2 .args .sizes .now) (c2 .args .entry) (c .before .if1 .left) in
     omega (arith, c2 .pre .1)
@@ -34,5 +34,4 @@ returns-2 c =
 
 pub share-at-spec : {M : Type 1} → statement M
 share-at-spec =
-    tie.close
-    (tie.spec returns sub-result mul-result shared-slice-read-result sub-result-2 returns-2)
+    tie.close (tie.spec returns sub-size mul-size shared-slice-read-size sub-share returns-2)

@@ -19,19 +19,19 @@ use Rattle.map.proofs.parts.area_from.Tie as tie
 array-share-prefix-edges : tie.Need-array-share-prefix-edges
 array-share-prefix-edges c = search needs
 
-slice-aggregate-people-in : tie.Need-slice-aggregate-people-in
-slice-aggregate-people-in c = search needs
+slice-aggregate-walk : tie.Need-slice-aggregate-walk
+slice-aggregate-walk c = search needs
 
-people-in-requires : tie.Need-people-in-requires
-people-in-requires c κs = let p = c .before .before .pre in (omega (arith, p), omega (arith, p), omega arith, omega arith)
+walk-requires : tie.Need-walk-requires
+walk-requires c κs = let p = c .before .before .pre in (omega (arith, p), omega (arith, p), omega arith, omega arith)
 
 -- the walk counted the population
-counted : (c : tie.After-people-in) →
+counted : (c : tie.After-walk) →
     let a = c .before .before .before .args in
-    tallyMeans (c .people-in .result) ≡ mapRead population (readRows (now (a .s)) (a .h .columns) (a .h .rows) (a .start))
+    tallyMeans (c .walk .result) ≡ mapRead population (readRows (now (a .s)) (a .h .columns) (a .h .rows) (a .start))
 counted c =
     let a = c .before .before .before .args in
-    c .people-in .ensures .0
+    c .walk .ensures .0
     ∙ ap (λ (g : List (List Place) → ℕ). mapRead g (readRows (now (a .s)) (a .h .columns) (a .h .rows) (a .start))) counts-population
 
 -- past the first test there are people
@@ -85,8 +85,8 @@ area-from-spec =
     tie.close
     (tie.spec
     array-share-prefix-edges
-    slice-aggregate-people-in
-    people-in-requires
+    slice-aggregate-walk
+    walk-requires
     enum-known-f
     enum-known-population
     at-most-requires

@@ -1,10 +1,10 @@
--- `coverage::parts::holding_in` meets its contract: the area's own fields, and its c. Assumes nothing.
+-- `coverage::holding_in` meets its contract: the area's own fields, and its c. Assumes nothing.
 use Prim.Native.Nat.{ℕ}
 use mathlib.Core.Path.{ap}
 use borrow.Author.Needs.{needs}
 use Rattle.coverage.specs.declared.Holding.{Holding}
-use Rattle.coverage.proofs.parts.holding_in.Statement.{statement}
-use Rattle.coverage.proofs.parts.holding_in.Tie as tie
+use Rattle.coverage.proofs.holding_in.Statement.{statement}
+use Rattle.coverage.proofs.holding_in.Tie as tie
 
 covered-in-requires : tie.Need-covered-in-requires
 covered-in-requires c κs = search needs
