@@ -7,10 +7,10 @@ use mathlib.Core.List.{List, [], _∷_, _++_, map, List·Memᴰ, List·Memᴰ·h
 use mathlib.Core.List.{List·Memᴰ·cases-cons, Memᴰ·append-left, Memᴰ·append-right, List·Memᴰ·append-cases}
 use native.Mathlib.Nat.{eq-or-lt-of-le}
 use native.Mathlib.Omega.{arith}
-use lib.Dec.{ltb}
-use borrow.Author.Tests.{ltb-true, ltb-false, le-ltb}
+use lib.Dec.{ltb, eqb}
+use borrow.Author.Tests.{ltb-true, ltb-false, le-ltb, eqb-true, eq-eqb}
 use Rattle.lists.specs.Sums.{any}
-use Rattle.lists.specs.Filters.{filter, upTo, foremost, firstOr}
+use Rattle.lists.specs.Filters.{filter, upTo, foremost, firstOr, among}
 use Rattle.lists.proofs.Tests.{by-test}
 
 module _ {A : Type 0} (f : A → Bool) where
@@ -78,6 +78,22 @@ module _ {A : Type 0} (f : A → Bool) where
       go true e = ap (λ (q : List A). y ∷ q) e
       go false e = e
 
+-- tests that agree on a list keep the same of it
+pub filter-same : {A : Type 0} (p q : A → Bool) (l : List A) → ((x : A) → List·Memᴰ x l → p x ≡ q x) → filter p l ≡ filter q l
+unfolding filter
+filter-same p q [] h = refl
+filter-same p q (y ∷ l) h =
+    rw (h y (List·Memᴰ·head refl), filter-same p q l (λ x m. h x (List·Memᴰ·tail m)))
+
+-- a number among some is a member, and the reverse
+pub among-mem : (l : List ℕ) (i : ℕ) → among i l ≡ true → List·Memᴰ i l
+among-mem l i h =
+    let r = any-some (λ (m : ℕ). eqb i m) l h in
+    subst (λ (j : ℕ). List·Memᴰ j l) (sym (eqb-true i (r .0) (r .2))) (r .1)
+
+pub mem-among : (l : List ℕ) (i : ℕ) → List·Memᴰ i l → among i l ≡ true
+mem-among l i m = some-any (λ (m : ℕ). eqb i m) l i m (eq-eqb i i refl)
+
 -- ---- members of a mapped list
 
 pub mem-map : {A B : Type 0} (f : A → B) (l : List A) (x : A) → List·Memᴰ x l → List·Memᴰ (f x) (map f l)
@@ -93,6 +109,11 @@ map-mem f (z ∷ l) y m = ⊎-elim
     (λ s. (z, List·Memᴰ·head refl, s))
     (λ n. let r = map-mem f l y n in (r .0, List·Memᴰ·tail (r .1), r .2))
     (List·Memᴰ·cases-cons m)
+
+-- functions that agree on a list make the same of it
+pub map-same : {A B : Type 0} (f g : A → B) (l : List A) → ((x : A) → List·Memᴰ x l → f x ≡ g x) → map f l ≡ map g l
+map-same f g [] h = refl
+map-same f g (y ∷ l) h = rw (h y (List·Memᴰ·head refl), map-same f g l (λ x m. h x (List·Memᴰ·tail m)))
 
 -- ---- the numbers below n
 
@@ -111,6 +132,15 @@ upTo-below (suc n) p m = ⊎-elim
     (λ a. omega (arith, upTo-below n p a))
     (λ b. ⊎-elim (λ e. omega arith) (λ x. absurd (List·Memᴰ·not-nil x)) (List·Memᴰ·cases-cons b))
     (List·Memᴰ·append-cases (upTo n) m)
+
+-- tests that agree below n keep the same of the numbers below n
+pub filter-below : (p q : ℕ → Bool) (n : ℕ) → ((i : ℕ) → i < n → p i ≡ q i) → filter p (upTo n) ≡ filter q (upTo n)
+filter-below p q n h = filter-same p q (upTo n) (λ i m. h i (upTo-below n i m))
+
+-- one number more
+pub filter-next : (p : ℕ → Bool) (n : ℕ) → filter p (upTo (suc n)) ≡ filter p (upTo n) ++ cond (p n) (n ∷ []) []
+unfolding upTo filter
+filter-next p n = filter-append p (upTo n) (n ∷ [])
 
 -- ---- the first and the foremost
 

@@ -1,15 +1,15 @@
 -- Laws of sums over lists. Assumes nothing.
 use Prim.Native.Nat.{ℕ, zero, suc, _+_, _*_, _≤_, _<_, zero-le}
 use mathlib.Core.Path.{_≡_, refl, sym, ap, _∙_}
-use mathlib.Core.Bool.{Bool, false}
+use mathlib.Core.Bool.{Bool, true, false}
 use mathlib.Core.List.{List, [], _∷_, _++_, map}
 use native.Mathlib.Omega.{arith}
 use native.Mathlib.Nat.{zero-add, mul-add, mul-zero}
 use native.Mathlib.Numerals.{add-one}
-use lib.Dec.{ltb}
+use lib.Dec.{ltb, eqb}
 use lib.ListN.{length, getD, take, drop}
 use lib.Seq.{take-suc, drop-cons}
-use borrow.Author.Tests.{lt-ltb}
+use borrow.Author.Tests.{lt-ltb, eqb-true, eqb-false}
 use Rattle.lists.specs.Sums.{total, any, All, flag, count}
 use Rattle.lists.proofs.Tests.{by-test}
 
@@ -29,6 +29,36 @@ count-first : (test : ℕ → Bool) (n : ℕ) → count test (suc n) ≡ flag (t
 unfolding count
 count-first test zero = omega arith
 count-first test (suc n) = let h = count-first test n in omega arith
+
+-- a count of the numbers below n is at most n
+pub count-most : (f : ℕ → Bool) (n : ℕ) → count f n ≤ n
+unfolding count
+count-most f zero = omega arith
+count-most f (suc n) =
+    let h = count-most f n in
+    by-test (f n) (λ t. rw t (omega arith)) (λ t. rw t (omega arith))
+
+-- where all that pass pass another test too, no more pass; and fewer do where one of the others does
+pub count-least : (f g : ℕ → Bool) (n : ℕ) → ((i : ℕ) → f i ≡ true → g i ≡ true) → count f n ≤ count g n
+unfolding count
+count-least f g zero s = omega arith
+count-least f g (suc n) s =
+    let h = count-least f g n s in
+    by-test (f n) (λ t. rw (t, s n t) (omega arith)) (λ t. rw t (omega arith))
+
+pub count-less : (f g : ℕ → Bool) (n i : ℕ) → ((j : ℕ) → f j ≡ true → g j ≡ true) → i < n → f i ≡ false → g i ≡ true
+    → count f n < count g n
+unfolding count
+count-less f g zero i s l a b = absurd (omega arith)
+count-less f g (suc n) i s l a b = by-test (eqb i n)
+    (λ t.
+    let e = eqb-true i n t in
+    let h = count-least f g n s in
+    rw (rw e at a, rw e at b) (omega arith))
+    (λ t.
+    let ne = eqb-false i n t in
+    let h = count-less f g n i s (omega arith) a b in
+    by-test (f n) (λ q. rw (q, s n q) (omega arith)) (λ q. rw q (omega arith)))
 
 module _ {A : Type 0} where
   -- a length is a sum

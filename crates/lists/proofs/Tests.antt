@@ -4,7 +4,8 @@ use mathlib.Core.Path.{_≡_, refl, sym, ap, _∙_}
 use mathlib.Core.Bool.{Bool, true, false, cond, _&&_}
 use native.Mathlib.Omega.{arith}
 use borrow.Author.Tests.{leb-true, leb-false, le-leb, lt-leb}
-use lib.Dec.{leb}
+use lib.Dec.{leb, eqb}
+use Rattle.lists.specs.Sums.{flag}
 
 -- by the two values of a test, with the equation in each
 pub by-test {ℓ} : {C : Type ℓ} (b : Bool) → (b ≡ true → C) → (b ≡ false → C) → C
@@ -21,6 +22,11 @@ takes {A} {t} {a} b e = ap (λ (x : Bool). cond x a b) (sym e)
 
 pub leaves : {A : Type 0} {t : Bool} (a : A) {b : A} → t ≡ false → b ≡ cond t a b
 leaves {A} {t} a {b} e = ap (λ (x : Bool). cond x a b) (sym e)
+
+-- a test told by 1 or 0
+pub told : (b : Bool) → eqb (flag b) 1 ≡ b
+told true = refl
+told false = refl
 
 -- two tests that follow from one another
 pub leb-same : (a b c d : ℕ) → (a ≤ b → c ≤ d) → (b < a → d < c) → leb a b ≡ leb c d

@@ -2,6 +2,7 @@
 use Prim.Native.Nat.{ℕ, zero, suc}
 use mathlib.Core.Bool.{Bool, cond, not}
 use mathlib.Core.List.{List, [], _∷_, _++_}
+use lib.Dec.{eqb}
 use Rattle.lists.specs.Sums.{any}
 
 -- those that pass a test, in their order
@@ -22,3 +23,7 @@ foremost ahead l = filter (λ a. not (any (λ b. ahead b a) l)) l
 unfoldable pub firstOr : {A : Type 0} → A → List A → A
 firstOr other [] = other
 firstOr other (a ∷ l) = a
+
+-- a number is among some
+abbrev pub among : ℕ → List ℕ → Bool
+among n l = any (λ m. eqb n m) l

@@ -26,3 +26,13 @@ flag b = cond b 1 0
 unfoldable pub count : (ℕ → Bool) → (n : ℕ) → ℕ
 count test zero = 0
 count test (suc i) = count test i + flag (test i)
+
+-- some number below n passes a test
+unfoldable pub someBelow : (ℕ → Bool) → (n : ℕ) → Bool
+someBelow test zero = false
+someBelow test (suc i) = someBelow test i || test i
+
+-- the sum, over the numbers below n that pass a test, of what each adds
+unfoldable pub sumBelow : (ℕ → ℕ) → (ℕ → Bool) → (n : ℕ) → ℕ
+sumBelow f test zero = 0
+sumBelow f test (suc i) = sumBelow f test i + cond (test i) (f i) 0
