@@ -1,15 +1,17 @@
 -- Laws of sets and set numbers, for lists of any length. Assumes nothing.
-use Prim.Native.Nat.{ℕ, zero, suc, _^_, _<_}
+use Prim.Native.Nat.{ℕ, zero, suc, _+_, _^_, _<_}
 use mathlib.Core.Path.{_≡_, refl, ap, _∙_}
-use mathlib.Core.Bool.{Bool, true, false}
+use mathlib.Core.Bool.{Bool, true, false, cond}
 use mathlib.Core.Logic.{⊎-elim}
-use mathlib.Core.List.{List, [], _∷_, map, List·Memᴰ, List·Memᴰ·head, List·Memᴰ·not-nil, List·Memᴰ·cases-cons}
+use mathlib.Core.List.{List, [], _∷_, _++_, map, List·Memᴰ, List·Memᴰ·head, List·Memᴰ·not-nil, List·Memᴰ·cases-cons}
 use mathlib.Core.List.{Memᴰ·append-left, Memᴰ·append-right, List·Memᴰ·append-cases}
 use native.Mathlib.Nat.{pow-suc}
 use native.Mathlib.Omega.{arith}
 use lib.ListN.{length, replicate}
+use Rattle.lists.specs.Sums.{total}
+use Rattle.lists.specs.Filters.{filter}
 use Rattle.lists.proofs.FilterLaws.{mem-map, map-mem}
-use Rattle.subset.specs.Sets.{setNumber, totalOf, sets}
+use Rattle.subset.specs.Sets.{setNumber, totalOf, sets, takenOf}
 
 abbrev put : Bool → List Bool → List Bool
 put b set = b ∷ set
@@ -43,6 +45,14 @@ number-below [] = omega arith
 number-below (true ∷ set) = omega (arith, pow-suc 2 (length set), number-below set)
 number-below (false ∷ set) = omega (arith, pow-suc 2 (length set), number-below set)
 
+-- an element more at the end has the next binary place
+pub number-last : (set : List Bool) (b : Bool) → setNumber (set ++ (b ∷ [])) ≡ setNumber set + cond b (2 ^ length set) 0
+unfolding setNumber
+number-last [] true = refl
+number-last [] false = refl
+number-last (a ∷ set) true = omega (arith, number-last set true, pow-suc 2 (length set))
+number-last (a ∷ set) false = omega (arith, number-last set false)
+
 -- no two sets of one list share a set number
 pub number-same : (a b : List Bool) → length a ≡ length b → setNumber a ≡ setNumber b → a ≡ b
 unfolding setNumber
@@ -60,3 +70,16 @@ unfolding totalOf
 total-none [] n = refl
 total-none (v ∷ values) zero = refl
 total-none (v ∷ values) (suc n) = omega (arith, total-none values n)
+
+-- ---- sets whose marks are the answers of a test
+
+pub total-marks : {A : Type 0} (value : A → ℕ) (f : A → Bool) (l : List A)
+    → totalOf (map value l) (map f l) ≡ total (λ a. cond (f a) (value a) 0) l
+unfolding totalOf
+total-marks value f [] = refl
+total-marks value f (a ∷ l) = ap (λ (n : ℕ). cond (f a) (value a) 0 + n) (total-marks value f l)
+
+pub taken-marks : {A : Type 0} (f : A → Bool) (l : List A) → takenOf l (map f l) ≡ filter f l
+unfolding takenOf filter
+taken-marks f [] = refl
+taken-marks f (a ∷ l) = rw (taken-marks f l)

@@ -21,3 +21,9 @@ totalOf (v ∷ values) (b ∷ set) = cond b v 0 + totalOf values set
 unfoldable pub sets : ℕ → List (List Bool)
 sets zero = [] ∷ []
 sets (suc n) = map (λ set. false ∷ set) (sets n) ++ map (λ set. true ∷ set) (sets n)
+
+-- the elements of a list that a set takes
+unfoldable pub takenOf : {A : Type 0} → List A → List Bool → List A
+takenOf [] set = []
+takenOf (a ∷ l) [] = []
+takenOf (a ∷ l) (b ∷ set) = cond b (a ∷ takenOf l set) (takenOf l set)
