@@ -1,17 +1,17 @@
 -- Laws of fields: a value that was read and tested, by the test of its room. Assumes nothing.
-use Prim.Native.Nat.{ℕ, zero, suc, _+_, _*_, _-_, _^_, _≤_, _<_}
+use Prim.Native.Nat.{ℕ, zero, suc, _+_, _*_, _-_, _/_, _%_, _^_, _≤_, _<_}
 use mathlib.Core.Path.{_≡_, refl, sym, ap, _∙_}
 use mathlib.Core.List.{List}
 use mathlib.Core.Bool.{Bool, true, false, cond}
 use native.Mathlib.Omega.{arith}
-use native.Mathlib.Nat.{zero-add, pow-suc}
+use native.Mathlib.Nat.{zero-add, pow-suc, zero-div}
 use borrow.Author.Tests.{leb-true, leb-false, le-leb, lt-leb}
-use lib.Dec.{leb}
-use lib.ListN.{length, getD}
+use lib.Dec.{leb, eqb}
+use lib.ListN.{length, getD, List·getD-eq-default}
 use Rattle.lists.proofs.Tests.{takes, leaves}
 use lib.IntN.{pos, negsuc, _-ℤ_}
 use Rattle.map.specs.Reading.{Read, bad, good, bind}
-use Rattle.map.specs.Format.{numberAt, field, clearFrom, bitMapBytes, bitMapField}
+use Rattle.map.specs.Format.{numberAt, field, bitAt, clearFrom, bitMapBytes, bitMapField}
 
 -- ---- the bytes of a number, from the last to the first
 
@@ -82,6 +82,13 @@ pub bit-map-is : {r : Read (Unit {0})} (s : List ℕ) (columns at : ℕ)
     → at + bitMapBytes columns ≤ length s → r ≡ bitMapField s columns at
 bit-map-is s columns at q h =
     field-is s at (bitMapBytes columns) (λ _. clearFrom s at columns (bitMapBytes columns * 8 - columns)) q refl h
+
+-- past the map's end no bit stands
+pub bit-past : (s : List ℕ) (bits j : ℕ) → length s ≤ bits + j / 8 → bitAt s bits j ≡ false
+unfolding bitAt
+bit-past s bits j h =
+    ap (λ (b : ℕ). eqb (b / 2 ^ (j % 8) % 2) 1) (List·getD-eq-default s 0 h)
+    ∙ ap (λ (b : ℕ). eqb (b % 2) 1) (zero-div (2 ^ (j % 8)))
 
 -- one reading after another: a fault ends it, and what was read is handed on
 pub bind-bad : {A B : Type 0} {r : Read A} {f : ℕ} (k : A → ℕ → Read B) → bad f ≡ r → bad f ≡ bind r k

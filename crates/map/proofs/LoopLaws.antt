@@ -140,7 +140,7 @@ module _ (columns rows always edges : ℕ) where
   abbrev gridTest : Bool
   gridTest = leb columns 256 && leb rows 256
 
-  walk-passes : columns ≤ 256 → rows ≤ 256 → always ≤ 64 → edges ≤ 256 → walkable columns rows always edges ≡ true
+  pub walk-passes : columns ≤ 256 → rows ≤ 256 → always ≤ 64 → edges ≤ 256 → walkable columns rows always edges ≡ true
   unfolding walkable
   walk-passes c r a e =
       let grid : gridTest ≡ true = both (le-leb columns 256 c) (le-leb rows 256 r) in

@@ -10,6 +10,7 @@ ghost use mathlib.Core.Path.{_≡_};
 ghost use mathlib.Core.Bool.{cond};
 ghost use Prim.Native.Nat.{_+_, _*_, _-_, _/_, _≤_, _<_};
 ghost use lib.ListN.{length};
+ghost use lib.Dec.{leb};
 ghost use Rattle.map.specs.Reading.{bad, many, mapRead};
 ghost use Rattle.map.specs.Format.{bitAt, clearFrom, readCell, readPlace, readRow, readRows, readHead, readBody, readArea};
 ghost use Rattle.map.specs.Counting.{boxCovers, boxesOver, placePeople, rowPeople, gridPeople, walkable};
@@ -102,6 +103,16 @@ fn place_at(s: &[u8], bits: usize, j: usize, at: usize) -> PlaceRead
     }
 }
 
+// What stands at column j of a row whose bit map starts at bits, wherever that is: past the map's end there is no cell.
+pub fn place(s: &[u8], bits: usize, j: usize, at: usize) -> PlaceRead
+    ensures { λ r. ⌜ (placeMeans r ≡ readPlace (now (s .entry)) bits j at) × (placeCount r ≤ 1000000) ⌝ }
+{
+    if fields::has_room(s, bits, j / 8 + 1) {
+        return place_at(s, bits, j, at);
+    }
+    PlaceRead::Gap(at)
+}
+
 // 1 for true, 0 for false.
 fn one(b: bool) -> u32
     ensures { λ r. ⌜ (r ≡ flag b) × (r ≤ 1) ⌝ }
@@ -133,6 +144,19 @@ fn boxes_over(edges: &[i32], latitude: i32, longitude: i32) -> u32
         i += 1;
     }
     count
+}
+
+// How many boxes cover a point; 0 for more edges than a register has.
+pub fn covering(edges: &[i32], latitude: i32, longitude: i32) -> u32
+    ensures { λ r. ⌜
+        (r ≡ cond (leb (length (now (edges .entry))) 256) (boxesOver (now (edges .entry)) latitude longitude) 0)
+        × (r ≤ 64)
+        ⌝ }
+{
+    if edges.len() <= 256 {
+        return boxes_over(edges, latitude, longitude);
+    }
+    0
 }
 
 // One place of a row: its people, counted always times and once more for each box that covers them. That is at most 1,000,000

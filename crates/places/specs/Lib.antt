@@ -1,0 +1,3 @@
+-- Document 01, "The footprint": an area's cells by place.
+pub mod Places
+pub mod Rows
