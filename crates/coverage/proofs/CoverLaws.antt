@@ -9,8 +9,9 @@ use borrow.Author.Tests.{le-leb, le-ltb}
 use lib.IntN.{ℤ, pos, negsuc}
 use lib.ListN.{length, getD, take}
 use lib.Seq.{length-take-le, getD-take}
-use Rattle.lists.specs.Sums.{total, flag, count}
-use Rattle.lists.proofs.SumLaws.{total-same, total-zero, total-add, total-scale, count-same, exchange}
+use lib.Dec.{ltb}
+use Rattle.lists.specs.Sums.{total, any, flag, count}
+use Rattle.lists.proofs.SumLaws.{any-total, total-same, total-zero, total-add, total-scale, count-same, exchange}
 use Rattle.map.specs.declared.Cell.{Cell}
 use Rattle.map.specs.Reading.{Read, bad, good, mapRead}
 use Rattle.map.specs.Format.{Place, gap, cell}
@@ -93,18 +94,27 @@ module _
         (edge (3 * n + i) (omega arith) t) x y)
         ∙ boxes-total (over c) (none-over c) d
 
+    -- a cell is counted once for each licence that covers it
+    times-covered : (c : Cell) →
+        always + boxesOver edges (c .latitude) (c .longitude) ≡ total (λ l. flag (covers (l .ground) number c)) ls
+    times-covered c =
+        (λ i. named i + boxes-over c i)
+        ∙ sym (total-add (λ l. flag (isArea number (l .ground))) (λ l. flag (isBox (over c) (l .ground))) ls)
+        ∙ total-same (λ l. two-ways (l .ground) number c) ls
+
+    -- and it is counted at all where some licence covers it
+    pub covered-some : (c : Cell) →
+        ltb 0 (always + boxesOver edges (c .latitude) (c .longitude)) ≡ any (λ l. covers (l .ground) number c) ls
+    covered-some c = ap (ltb 0) (times-covered c) ∙ sym (any-total (λ l. covers (l .ground) number c) ls)
+
     -- a place counts for each licence that covers it
     at-place : (p : Place) → placePeople always edges p ≡ total (λ l. peopleUnder l number p) ls
     unfolding placePeople
     at-place gap = sym (total-zero (λ l. refl) ls)
     at-place (cell c) =
-        let byArea : Licence → ℕ = λ l. flag (isArea number (l .ground)) in
-        let byBox : Licence → ℕ = λ l. flag (isBox (over c) (l .ground)) in
-        (λ i. c .people * (named i + boxes-over c i))
-        ∙ ap (λ (n : ℕ). c .people * n) (sym (total-add byArea byBox ls))
-        ∙ sym (total-scale (c .people) (λ l. byArea l + byBox l) ls)
-        ∙ total-same
-        (λ l. ap (λ (n : ℕ). c .people * n) (two-ways (l .ground) number c) ∙ if-covered (c .people) (covers (l .ground) number c)) ls
+        ap (λ (n : ℕ). c .people * n) (times-covered c)
+        ∙ sym (total-scale (c .people) (λ l. flag (covers (l .ground) number c)) ls)
+        ∙ total-same (λ l. if-covered (c .people) (covers (l .ground) number c)) ls
 
     -- the walk over the rows gives the sum over the licences
     pub covered-is : (grid : List (List Place)) → gridPeople always edges grid ≡ total (λ l. total (total (peopleUnder l number)) grid) ls

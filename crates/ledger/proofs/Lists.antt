@@ -1,8 +1,7 @@
--- Document 01, "The list of demand 3": the claim about every list of grants, cancellations and proposals from an empty register, over
--- one accepted map. Assumes nothing.
+-- Document 01, "The list of demand 3": the claim about every list of grants, cancellations, proposals and footprints from an empty
+-- register, over one accepted map. Assumes nothing.
 use Prim.Native.Nat.{ℕ, zero, suc, _+_, _≤_, zero-le}
 use mathlib.Core.Path.{_≡_, refl, sym, ap, subst, _∙_}
-use mathlib.Core.Bool.{cond}
 use mathlib.Core.List.{List, [], _∷_, _++_}
 use native.Mathlib.Omega.{arith}
 use lib.Dec.{ltb, eqb}
@@ -37,14 +36,17 @@ use Rattle.coverage.specs.Cover.{holdingsOf}
 use Rattle.coverage.proofs.SameLaws.{same-holdings}
 use Rattle.proposal.specs.declared.Proposal as proposed
 use Rattle.proposal.specs.Choices.{partials}
-use Rattle.proposal.specs.Answer.{Proposal, refusedBy, answerOf, proposal, proposalOn}
+use Rattle.proposal.specs.Answer.{Proposal, proposal, proposalOn}
 use Rattle.proposal.specs.Contracts.{refusalNumber, means, Answers}
 use Rattle.proposal.specs.Demand as demand
-use Rattle.proposal.proofs.Theorems.{right}
-use Rattle.ledger.specs.Calls.{Call, grant, cancel, propose, Outcome, Made, calls}
+use Rattle.proposal.proofs.Theorems.{refused-by, right}
+use Rattle.footprint.specs.Footprint.{Footprint}
+use Rattle.footprint.specs.Contracts.{FootprintDone}
+use Rattle.ledger.specs.Calls.{Call, grant, cancel, propose, footprint, Outcome, Made, calls}
 use Rattle.ledger.specs.Ledger.{linesAfter, ledger}
 use Rattle.ledger.specs.Runs.{Empties, Step, Run, done, step}
 use Rattle.ledger.specs.Right.{ProposalRight, Right, AllRight, number, Sound, Holds, Registers, ListClaim}
+use Rattle.ledger.proofs.Outlines.{outline-on-lines, footprint-right}
 
 abbrev Same : Register → List Licence → Type 0
 Same r lines = SameLicences (inForce (r .places)) lines
@@ -76,6 +78,7 @@ same-step : (map : List ℕ) (r : Register) (lines : List Licence) → Same r li
 same-step map r lines same (grant l) o next d = grant-keeps r lines l (record { next = next; answer = o }) d same
 same-step map r lines same (cancel s) o next d = cancel-keeps r lines s (record { next = next; answer = o }) d same
 same-step map r lines same (propose draw) o next d = subst (λ (x : Register). Same x lines) (sym (d .1)) same
+same-step map r lines same (footprint draw mask table) o next d = subst (λ (x : Register). Same x lines) (sym (d .1)) same
 
 -- an empty register has no licence in force
 empty-same : (r : Register) → Empties r → Same r []
@@ -86,11 +89,6 @@ empty-same r e f = simp e (go limit)
     go (suc n) = simp (sign-is 0 freePlace refl) (go n)
 
 -- ---- a proposal counts just the ledger's lines
-
--- the number that comes, by the definition
-refused-by : (areas : List Holding) (draw : ℕ) → proposal areas draw .refused ≡ cond (ltb 20 (length (partials areas))) 12 0
-unfolding proposal refusedBy answerOf
-refused-by areas draw = by-test (ltb 20 (length (partials areas))) (λ t. simp t) (λ t. simp t)
 
 -- a proposal that is not refused has at most 20 partial areas
 few-partial : (areas : List Holding) (draw : ℕ) → proposal areas draw .refused ≡ 0 → length (partials areas) ≤ 20
@@ -130,12 +128,17 @@ module _ (map : List ℕ) (areas : List Area) (e : ℕ) (reads : readMap map ≡
   right-step r lines same (propose draw) o next d =
       proposal-right areas lines draw o
       (subst (λ (p : Proposal). Answers p o) (on-lines map areas e reads r lines same draw) (d .0 .post))
+  right-step r lines same (footprint draw mask table) o next d =
+      footprint-right map areas e reads lines draw mask table o
+      (subst (λ (x : Footprint). FootprintDone x (o .answer) mask (o .mask) table (o .table))
+      (outline-on-lines map areas e reads (inForce (r .places)) lines same draw (length mask) (length table)) (d .0 .post))
 
 refused-keeps : (map : List ℕ) (r : Register) (c : Call) (o : Outcome c) (next : Register) →
     Step map r c o next → (number c o ≡ 0 → ⊥) → next ≡ r
 refused-keeps map r (grant l) o next d z = d .refused z
 refused-keeps map r (cancel s) o next d z = d .refused z
 refused-keeps map r (propose draw) o next d z = d .1
+refused-keeps map r (footprint draw mask table) o next d z = d .1
 
 -- ---- the ledger's own lines
 
@@ -158,6 +161,7 @@ sound-after lines (cancel s) p =
     }))
     (λ t. simp t p)
 sound-after lines (propose draw) p = p
+sound-after lines (footprint draw mask table) p = p
 
 sound-from : (lines : List Licence) (cs : List Call) → Sound lines → Sound (ledger lines cs)
 sound-from lines [] p = p
@@ -171,6 +175,20 @@ same-sound xs ys same p =
     let n = same-length xs ys same in
     let few = p .few in
     record { once = λ s. (let e = same (signs s) in let once = p .once s in omega arith); few = omega arith }
+
+-- the last register holds the ledger's lines, over any map
+last-holds : {map : List ℕ} {r last : Register} {made : List Made} (lines : List Licence) → Run map r made last →
+    Same r lines → Sound lines → Holds last (ledger lines (calls made))
+last-holds {r = r} lines done same p = record { same = same; sound = same-sound (inForce (r .places)) lines same p }
+last-holds {map} {r} lines (step {next = next} m s run) same p =
+    last-holds (linesAfter lines (m .call)) run (same-step map r lines same (m .call) (m .outcome) next s) (sound-after lines (m .call) p)
+
+none-sound : Sound []
+none-sound = record { once = λ s. zero-le; few = zero-le }
+
+pub list-holds : {map : List ℕ} (first last : Register) (made : List Made) → Empties first → Run map first made last →
+    Holds last (ledger [] (calls made))
+list-holds first last made e run = last-holds [] run (empty-same first e) none-sound
 
 module _ (map : List ℕ) (areas : List Area) (end : ℕ) (reads : readMap map ≡ good areas end) where
   from : {r last : Register} {made : List Made} (lines : List Licence) (run : Run map r made last) → Same r lines → Sound lines →
@@ -188,12 +206,11 @@ module _ (map : List ℕ) (areas : List Area) (end : ℕ) (reads : readMap map �
 
   pub list-claim : (first last : Register) (made : List Made) → Empties first → (run : Run map first made last) → ListClaim areas run
   list-claim first last made e run =
-      let none : Sound [] = record { once = λ s. zero-le; few = zero-le } in
-      let h = from [] run (empty-same first e) none in
+      let h = from [] run (empty-same first e) none-sound in
       record {
         right = h .0;
         registers = h .1;
-        sound = λ before later q. sound-from [] (calls before) none;
+        sound = λ before later q. sound-from [] (calls before) none-sound;
       }
 
   all-at : (lines : List Licence) (before : List Made) (m : Made) (later : List Made) →

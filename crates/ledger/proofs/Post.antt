@@ -17,6 +17,11 @@ use Rattle.proposal.specs.declared.Proposal.{Proposal}
 use Rattle.proposal.specs.Answer.{proposalOn}
 use Rattle.proposal.specs.Contracts.{Answers}
 use Rattle.proposal.proofs.propose.Reads as propose-reads
+use lib.ListN.{length}
+use Rattle.footprint.specs.Footprint.{footprintOn}
+use Rattle.footprint.specs.Contracts.{FootprintDone}
+use Rattle.footprint.proofs.footprint.Reads as footprint-reads
+use Rattle.ledger.specs.Calls.{Outline}
 use Rattle.ledger.specs.Runs.{Empties, Grants, Cancels, Where, lent}
 
 pub empties-is : (r : Register) → Empties r ≡ EmptyDone r
@@ -44,3 +49,15 @@ module _ (lives : Lfts 1) (lies : Where) (map : List ℕ) (r : Register) (draw :
 
   pub propose-asks-nothing : propose-reads.Pre lives (lent lies map, (r, (draw, tt))) ≡ Unit {0}
   propose-asks-nothing = refl
+
+module _ (lives : Lfts 3) (lies masks tables : Where) (map : List ℕ) (r : Register) (draw : ℕ) (mask table : List ℕ) where
+  pub footprints-is : (o : Outline) → footprint-reads.Post lives
+      (lent lies map, (r, (draw, (lent masks mask, (lent tables table, tt))))) (o .answer)
+      (lent lies map, (r, (draw, (lent masks (o .mask), (lent tables (o .table), tt)))))
+      ≡ FootprintDone (footprintOn (readMap map) (inForce (r .places)) draw (length mask) (length table)) (o .answer)
+      mask (o .mask) table (o .table)
+  footprints-is o = refl
+
+  pub footprint-asks-nothing :
+      footprint-reads.Pre lives (lent lies map, (r, (draw, (lent masks mask, (lent tables table, tt))))) ≡ Unit {0}
+  footprint-asks-nothing = refl

@@ -5,13 +5,14 @@ use lib.Dec.{eqb}
 use Rattle.register.specs.declared.Licence.{Licence}
 use Rattle.register.specs.Licences.{strike}
 use Rattle.register.specs.Rules.{grantRule, cancelRule}
-use Rattle.ledger.specs.Calls.{Call, grant, cancel, propose}
+use Rattle.ledger.specs.Calls.{Call, grant, cancel, propose, footprint}
 
 -- "The list of demand 3": an accepted grant adds its line, an accepted cancellation strikes its own, and nothing else changes a line
 abbrev pub linesAfter : List Licence → Call → List Licence
 linesAfter lines (grant l) = cond (eqb (grantRule lines l) 0) (l ∷ lines) lines
 linesAfter lines (cancel s) = cond (eqb (cancelRule lines s) 0) (strike s lines) lines
 linesAfter lines (propose draw) = lines
+linesAfter lines (footprint draw mask table) = lines
 
 -- "The list of demand 3": the lines after a list of calls, from the lines before it
 abbrev pub ledger : List Licence → List Call → List Licence

@@ -4,3 +4,4 @@ pub mod Ledger
 pub mod Runs
 pub mod Right
 pub mod Played
+pub mod Code

@@ -1,11 +1,12 @@
 -- Document 01, "The list of demand 3": what is claimed of a list of calls. Assumes nothing.
-use Prim.Native.Nat.{ℕ, _≤_}
+use Prim.Native.Nat.{ℕ, _≤_, _<_}
 use mathlib.Core.Path.{_≡_}
 use mathlib.Core.Bool.{cond}
 use mathlib.Core.List.{List, [], _∷_, _++_}
 use lib.Dec.{ltb}
-use lib.ListN.{length}
+use lib.ListN.{length, drop, replicate}
 use Rattle.map.specs.Format.{Area}
+use Rattle.map.specs.Answers.{some, locate}
 use Rattle.register.specs.declared.Licence.{Licence}
 use Rattle.register.specs.declared.Register.{Register}
 use Rattle.register.specs.Licences.{inForce}
@@ -17,7 +18,12 @@ use Rattle.proposal.specs.Choices.{partials}
 use Rattle.proposal.specs.Answer.{proposal}
 use Rattle.proposal.specs.Contracts.{refusalNumber, means, Answers}
 use Rattle.proposal.specs.Demand as demand
-use Rattle.ledger.specs.Calls.{Call, grant, cancel, propose, Outcome, Made, calls}
+use Rattle.ring.specs.Ring.{shown}
+use Rattle.rounds.specs.Demand as outline
+use Rattle.rounds.specs.Footprint.{places, needed}
+use Rattle.footprint.specs.Footprint.{partArea, coveredCells, shares, sharedIn, footprintBy}
+use Rattle.footprint.specs.Contracts as replied
+use Rattle.ledger.specs.Calls.{Call, grant, cancel, propose, footprint, Outline, Outcome, Made, calls}
 use Rattle.ledger.specs.Ledger.{linesAfter, ledger}
 use Rattle.ledger.specs.Runs.{Run, done, step}
 
@@ -31,11 +37,48 @@ pub record ProposalRight (areas : List Area) (lines : List Licence) (draw : ℕ)
   -- not refused, it is an allowed choice from S, every allowed choice ranks level or behind, and it is all whole exactly when some is
   pub right : refusalNumber (p .outcome) ≡ 0 → demand.Right (holdingsOf lines areas) (means p)
 
+-- the partial area of a footprint with its share: "A footprint's share is that of the proposal on the same lines with the footprint's
+-- draw"
+pub record Partial (areas : List Area) (lines : List Licence) (draw : ℕ) : Type 0 where
+  pub area : Area
+  pub located : locate (area .head .number) areas ≡ some area
+  pub share : ℕ
+  pub shared : sharedIn (proposal (holdingsOf lines areas) draw .areas) ≡ shares (area .head .number) share
+
+-- "the bytes it leaves": at 8 the count needed comes, the area's bytes are 0 and the others stay
+pub record TooShort (areas : List Area) (lines : List Licence) (draw : ℕ) (mask table : List ℕ) (o : Outline) : Type 0 where
+  pub of : Partial areas lines draw
+  pub count : replied.means (o .answer) .needed ≡ needed (partArea (of .area)) (of .share) (coveredCells lines (of .area))
+  pub lacks : length table < replied.means (o .answer) .needed
+  pub zeros : o .mask ≡ replicate (places (partArea (of .area))) 0 ++ drop (places (partArea (of .area))) mask
+
+-- a footprint that is made: the mask marks a set of cells of the partial area that carries at least the share, exactly the share without
+-- a last ring, and no more than any choice from the last ring that keeps the share
+pub record Carries (areas : List Area) (lines : List Licence) (draw : ℕ) (mask : List ℕ) (o : Outline) : Type 0 where
+  pub of : Partial areas lines draw
+  pub number : replied.means (o .answer) .area ≡ of .area .head .number
+  pub right : outline.Right (partArea (of .area)) (of .share) (coveredCells lines (of .area)) (shown (o .mask))
+  pub past : drop (places (partArea (of .area))) (o .mask) ≡ drop (places (partArea (of .area))) mask
+
+-- "In a list, the licences in force are the ledger's lines before the call; c, S, T, share and F come from them": what is claimed of a
+-- footprint over a map with these areas
+pub record FootprintRight (areas : List Area) (lines : List Licence) (draw : ℕ) (mask table : List ℕ) (o : Outline) : Type 0 where
+  -- it is document 01's footprint for the lines: the answer, every byte of the mask, and every entry of the table that is not used
+  pub answer : replied.FootprintDone (footprintBy areas lines (length mask) (length table) (proposal (holdingsOf lines areas) draw))
+      (o .answer) mask (o .mask) table (o .table)
+  -- refused, it leaves the table, and the mask too save at 8
+  pub table-left : (replied.means (o .answer) .refused ≡ 0 → ⊥) → o .table ≡ table
+  pub mask-left : (replied.means (o .answer) .refused ≡ 0 → ⊥) → (replied.means (o .answer) .refused ≡ 8 → ⊥) → o .mask ≡ mask
+  pub short : replied.means (o .answer) .refused ≡ 8 → TooShort areas lines draw mask table o
+  -- not refused
+  pub carries : replied.means (o .answer) .refused ≡ 0 → Carries areas lines draw mask o
+
 -- "The list of demand 3": an outcome is right if it is what the ledger answers, by its lines before the call
 abbrev pub Right : List Area → List Licence → (c : Call) → Outcome c → Type 0
 Right areas lines (grant l) answer = grantNumber answer ≡ grantRule lines l
 Right areas lines (cancel s) answer = cancelNumber answer ≡ cancelRule lines s
 Right areas lines (propose draw) p = ProposalRight areas lines draw p
+Right areas lines (footprint draw mask table) o = FootprintRight areas lines draw mask table o
 
 -- "The list of demand 3": one claim about a whole list of calls, each outcome right for the ledger's lines before its call
 abbrev pub AllRight : List Area → List Licence → List Made → Type 0
@@ -47,6 +90,7 @@ abbrev pub number : (c : Call) → Outcome c → ℕ
 number (grant l) answer = grantNumber answer
 number (cancel s) answer = cancelNumber answer
 number (propose draw) p = refusalNumber (p .outcome)
+number (footprint draw mask table) o = replied.means (o .answer) .refused
 
 -- "The list of demand 3": no two lines share a call sign, and there are at most 64
 pub record Sound (lines : List Licence) : Type 0 where

@@ -1,55 +1,172 @@
-// Document 01, "The list of demand 3": a list of calls on one register, over one map.
-use proposal::Proposal;
-use register::CancelAnswer;
-use register::GrantAnswer;
+// Document 01, "The list of demand 3": a list of calls on one register, over one map. The way in is play.
+use map::fields;
+use register::GeoBox;
+use register::Ground;
 use register::Licence;
 use register::Register;
-ghost use Rattle.ledger.specs.Played.{PlayDone};
+ghost use Prim.Native.Nat.{ℕ, _+_, _≤_};
+ghost use mathlib.Core.Path.{_≡_};
+ghost use mathlib.Core.Bool.{not};
+ghost use mathlib.Core.List.{List};
+ghost use lib.Dec.{eqb};
+ghost use lib.ListN.{length};
+ghost use Rattle.lists.specs.Sums.{flag};
+ghost use Rattle.ledger.specs.Calls.{grant, cancel, propose, footprint};
+ghost use Rattle.ledger.specs.Played.{groundAt, callAt, PlayDone};
+ghost use Rattle.ledger.specs.Code.{CallDone};
 
-// What eight calls answer, in their order.
+// What comes of a list: the register after its last call, how many calls it has, and how many of them were refused.
 pub struct Played {
-    pub granted: GrantAnswer,
-    pub granted_twice: GrantAnswer,
-    pub granted_second: GrantAnswer,
-    pub proposal: Proposal,
-    pub cancelled: CancelAnswer,
-    pub cancelled_twice: CancelAnswer,
-    pub proposal_after: Proposal,
-    pub granted_again: GrantAnswer,
+    pub register: Register,
+    pub calls: usize,
+    pub refused: usize,
 }
 
-// Eight calls that show that such lists are made: each gets the register that the call before it handed back or left.
-pub fn play(map: &[u8], first: Licence, second: Licence, call_sign: u32, draw: u32) -> Played
-    ensures { λ r. ⌜ PlayDone (now (map .entry)) first second «call_sign» draw r ⌝ }
+// What a call leaves: the register, and document 01's number of its refusal, 0 where it is not refused.
+struct Next {
+    register: Register,
+    number: u32,
+}
+
+// 1 for the number of a refusal, else 0.
+fn one_refused(number: u32) -> usize
+    ensures { λ r. ⌜ (r ≡ flag (not (eqb number 0))) × (r ≤ 1) ⌝ }
 {
-    let register = Register::empty();
-    let one = register.grant(first);
-    let after_one = one.next;
-    let two = after_one.grant(first);
-    let after_two = two.next;
-    let three = after_two.grant(second);
-    let after_three = three.next;
-    let proposal = proposal::propose(map, after_three, draw);
-    let five = after_three.cancel(call_sign);
-    let after_five = five.next;
-    let six = after_five.cancel(call_sign);
-    let after_six = six.next;
-    let proposal_after = proposal::propose(map, after_six, draw);
-    let eight = after_six.grant(first);
-    let granted = one.answer;
-    let granted_twice = two.answer;
-    let granted_second = three.answer;
-    let cancelled = five.answer;
-    let cancelled_twice = six.answer;
-    let granted_again = eight.answer;
+    if number == 0 { 0 } else { 1 }
+}
+
+// The ground of a grant, in the eight words at a position.
+fn ground_at(calls: &[u32], at: usize) -> Ground
+    requires { ⌜ at + 8 ≤ length (now calls) ⌝ }
+    ensures { λ r. ⌜ r ≡ groundAt (now (calls .entry)) at ⌝ }
+{
+    if calls[at + 2] == 0 {
+        return Ground::Area((calls[at + 3] % 65536) as u16);
+    }
+    let south = fields::signed(calls[at + 4]);
+    let north = fields::signed(calls[at + 5]);
+    let west = fields::signed(calls[at + 6]);
+    let east = fields::signed(calls[at + 7]);
+    Ground::Box(GeoBox {
+        south,
+        north,
+        west,
+        east,
+    })
+}
+
+// A grant.
+fn play_grant(register: Register, l: Licence) -> Next
+    ensures { λ r. ⌜ ((map mask table : List ℕ) → CallDone map register (grant l) mask mask table table r) ⌝ }
+{
+    let granted = register.grant(l);
+    let answer = granted.answer;
+    let next = granted.next;
+    Next {
+        register: next,
+        number: answer.number(),
+    }
+}
+
+// A cancellation.
+fn play_cancel(register: Register, call_sign: u32) -> Next
+    ensures { λ r. ⌜ ((map mask table : List ℕ) → CallDone map register (cancel «call_sign») mask mask table table r) ⌝ }
+{
+    let cancelled = register.cancel(call_sign);
+    let answer = cancelled.answer;
+    let left = cancelled.next;
+    Next {
+        register: left,
+        number: answer.number(),
+    }
+}
+
+// A proposal, which leaves the register.
+fn play_proposal(map: &[u8], register: Register, draw: u32) -> Next
+    ensures { λ r. ⌜ ((mask table : List ℕ) → CallDone (now (map .entry)) register (propose draw) mask mask table table r) ⌝ }
+{
+    let p = proposal::propose(map, register, draw);
+    let outcome = p.outcome;
+    Next {
+        register,
+        number: outcome.refusal(),
+    }
+}
+
+// A footprint, which leaves the register.
+fn play_footprint(
+    map: &[u8],
+    register: Register,
+    draw: u32,
+    mask: &mut [u8],
+    table: &mut [u16],
+) -> Next
+    ensures { λ r. ⌜ CallDone (now (map .entry)) register (footprint draw (now (mask .entry)) (now (table .entry)))
+        (now (mask .entry)) (now (mask .exit)) (now (table .entry)) (now (table .exit)) r ⌝ }
+{
+    let answer = footprint::footprint(map, register, draw, mask, table);
+    Next {
+        register,
+        number: answer.refusal(),
+    }
+}
+
+// The call in the eight words at a position, by its kind.
+fn play_call(
+    map: &[u8],
+    register: Register,
+    calls: &[u32],
+    at: usize,
+    mask: &mut [u8],
+    table: &mut [u16],
+) -> Next
+    requires { ⌜ at + 8 ≤ length (now calls) ⌝ }
+    ensures { λ r. ⌜ CallDone (now (map .entry)) register
+        (callAt (now (calls .entry)) at (now (mask .entry)) (now (table .entry)))
+        (now (mask .entry)) (now (mask .exit)) (now (table .entry)) (now (table .exit)) r ⌝ }
+{
+    let kind = calls[at];
+    let word = calls[at + 1];
+    match kind {
+        0 => {
+            let ground = ground_at(calls, at);
+            play_grant(
+                register,
+                Licence {
+                    call_sign: word,
+                    ground,
+                },
+            )
+        }
+        1 => play_cancel(register, word),
+        2 => play_proposal(map, register, word),
+        _ => play_footprint(map, register, word, mask, table),
+    }
+}
+
+// Plays a list of calls on one register, from an empty one, over one map; every footprint is lent the same mask and table. Eight words
+// are a call: its kind (0 a grant, 1 a cancellation, 2 a proposal, else a footprint); its call sign or its draw; and the ground of a grant,
+// which is 0 and an area's number, or else anything but 0, a word that is not read, and the edges south, north, west and east.
+// Words after the last whole call are not read.
+pub fn play(map: &[u8], calls: &[u32], mask: &mut [u8], table: &mut [u16]) -> Played
+    ensures { λ r. ⌜ PlayDone (now (map .entry)) (now (calls .entry)) (now (mask .entry)) (now (mask .exit))
+        (now (table .entry)) (now (table .exit)) r ⌝ }
+{
+    let count = calls.len() / 8;
+    let mut register = Register::empty();
+    let mut refused: usize = 0;
+    let mut i: usize = 0;
+    while i < count {
+        let before = register;
+        let next = play_call(map, before, calls, 8 * i, mask, table);
+        refused += one_refused(next.number);
+        let after = next.register;
+        register = after;
+        i += 1;
+    }
     Played {
-        granted,
-        granted_twice,
-        granted_second,
-        proposal,
-        cancelled,
-        cancelled_twice,
-        proposal_after,
-        granted_again,
+        register,
+        calls: count,
+        refused,
     }
 }

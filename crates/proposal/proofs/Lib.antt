@@ -1,5 +1,4 @@
 -- Document 01, "The proposal": the theorems, what joins the search to the definitions, and the laws of the loops.
-pub mod HandCounts
 pub mod ChoiceLaws
 pub mod RankLaws
 pub mod BestLaws
@@ -8,3 +7,4 @@ pub mod SettleLaws
 pub mod Theorems
 pub mod AnswerLaws
 pub mod MapLaws
+pub mod EmptyLaws

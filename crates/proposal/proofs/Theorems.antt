@@ -5,7 +5,7 @@ use mathlib.Core.Bool.{Bool, true, false, cond, true≢false, false≢true}
 use mathlib.Core.Logic.{_↔_}
 use mathlib.Core.List.{List, [], _∷_, List·Memᴰ}
 use native.Mathlib.Omega.{arith}
-use lib.Dec.{eqb}
+use lib.Dec.{ltb, eqb}
 use lib.ListN.{length, getD, length-append}
 use borrow.Author.Tests.{le-ltb}
 use Rattle.lists.specs.Sums.{any, count}
@@ -179,6 +179,11 @@ pub proposed-is : (areas : List Holding) (draw : ℕ) → length (partials areas
 unfolding proposal
 proposed-is areas draw few =
     sym (ap (λ b. cond b (refusedBy 12) (answerOf areas (chosen (partials areas) draw))) (le-ltb 20 (length (partials areas)) few))
+
+-- "12: more than 20 partial areas": the number that comes over an accepted map
+pub refused-by : (areas : List Holding) (draw : ℕ) → proposal areas draw .refused ≡ cond (ltb 20 (length (partials areas))) 12 0
+unfolding proposal refusedBy answerOf
+refused-by areas draw = by-test (ltb 20 (length (partials areas))) (λ t. simp t) (λ t. simp t)
 
 -- what demand 3 says of a proposal that is not refused
 pub right : (areas : List Holding) (draw : ℕ) → length (partials areas) ≤ 20 → Right areas (proposal areas draw)

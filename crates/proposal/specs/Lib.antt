@@ -2,7 +2,6 @@
 pub mod Choices
 pub mod Best
 pub mod Answer
-pub mod Holdings
 pub mod Contracts
 pub mod Demand
 pub mod Code

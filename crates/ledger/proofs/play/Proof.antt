@@ -1,93 +1,88 @@
--- `ledger::play` meets its contract: its calls are a run from an empty register, of which the claim about every list tells.
--- Assumes nothing.
-use mathlib.Core.Path.{refl}
-use Rattle.ledger.specs.Calls.{grant, cancel, propose}
-use Rattle.ledger.specs.Runs.{Where, Run, done, step}
-use Rattle.ledger.specs.Played.{made}
-use Rattle.ledger.proofs.Lists.{list-claim}
+-- `ledger::play`: the invariant is `Playing`, a run from an empty register over the calls of the words so far. Assumes nothing.
+use Prim.Native.Nat.{_-_}
+use native.Mathlib.Omega.{arith}
+use denote.Ref.{now}
+use Rattle.ledger.proofs.PlayLaws.{Playing, playing-starts, playing-turns, playing-ends}
 use borrow.Author.Needs.{needs}
 use Rattle.ledger.proofs.play.Statement.{statement}
 use Rattle.ledger.proofs.play.Tie as tie
 
-empty-requires : tie.Need-empty-requires
+abbrev Inv-loop : tie.InvT-loop
+Inv-loop map calls mask₀ table₀ count register₀ refused₀ i₀ mask table register refused i =
+    Playing map calls mask₀ table₀ mask table register refused i
+
+abbrev μ-loop : tie.MeasureT-loop
+μ-loop map calls mask₀ table₀ count register₀ refused₀ i₀ mask table register refused i = count - i
+
+empty-requires : tie.Need-empty-requires Inv-loop μ-loop
 empty-requires c κs = search needs
 
-grant-requires : tie.Need-grant-requires
-grant-requires c κs = search needs
+loop-holds : tie.Need-loop-holds Inv-loop μ-loop
+loop-holds c =
+    let a = c .before .before .before .before .before .args in
+    playing-starts (now (a .map)) (now (a .calls)) (now (a .mask)) (now (a .table)) (c .empty .result) (c .empty .ensures)
 
-grant-requires-2 : tie.Need-grant-requires-2
-grant-requires-2 c κs = search needs
+mul-play-call : tie.Need-mul-play-call Inv-loop μ-loop
+mul-play-call c = search needs
 
-grant-requires-3 : tie.Need-grant-requires-3
-grant-requires-3 c κs = search needs
+play-call-requires : tie.Need-play-call-requires Inv-loop μ-loop
+play-call-requires c κs = search needs
 
-propose-requires : tie.Need-propose-requires
-propose-requires c κs = search needs
+one-refused-requires : tie.Need-one-refused-requires Inv-loop μ-loop
+one-refused-requires c κs = search needs
 
-cancel-requires : tie.Need-cancel-requires
-cancel-requires c κs = search needs
+add-refused : tie.Need-add-refused Inv-loop μ-loop
+add-refused c =
+    let d = c .before .before .before .before .before .before .before .before in
+    let few = d .before .loop .inv .few in
+    let below = d .loop-test .taken in
+    let one = c .one-refused .ensures .1 in
+    search needs
 
-cancel-requires-2 : tie.Need-cancel-requires-2
-cancel-requires-2 c κs = search needs
+add-i : tie.Need-add-i Inv-loop μ-loop
+add-i c = search needs
 
-propose-requires-2 : tie.Need-propose-requires-2
-propose-requires-2 c κs = search needs
+loop-less : tie.Need-loop-less Inv-loop μ-loop
+loop-less c =
+    let below = c .before .before .before .before .before .before .before .before .before .loop-test .taken in
+    omega arith
 
-grant-requires-4 : tie.Need-grant-requires-4
-grant-requires-4 c κs = search needs
+loop-again : tie.Need-loop-again Inv-loop μ-loop
+loop-again c =
+    let d = c .before .before .before .before .before .before in
+    let l = d .before .before .before .before .loop in
+    let a = d .before .before .before .before .before .before .before .before .before .before .args in
+    let r = d .play-call in
+    playing-turns (now (a .map)) (now (a .calls)) (now (a .mask)) (now (a .table)) (l .inv) (d .before .before .before .loop-test .taken)
+    (r .result) (r .last .1 .1 .1 .1 .0) (r .last .1 .1 .1 .1 .1 .0) (c .before .one-refused .result) (r .ensures)
+    (c .before .one-refused .ensures) (r .kept .1 .1 .1 .1 .0) (r .kept .1 .1 .1 .1 .1 .0)
 
-returns : tie.Need-returns
+same-length : tie.Need-same-length Inv-loop μ-loop
+same-length c = c .before .loop .inv .mask-size
+
+same-length-2 : tie.Need-same-length-2 Inv-loop μ-loop
+same-length-2 c = c .before .loop .inv .table-size
+
+returns : tie.Need-returns Inv-loop μ-loop
 returns c =
-    λ areas e reads. (
-    let eight = c .grant4 in
-    let seven = c .before .propose2 in
-    let six = c .before .before .before .cancel2 in
-    let five = c .before .before .before .before .before .cancel in
-    let c6 = c .before .before .before .before .before .before in
-    let four = c6 .propose in
-    let three = c6 .before .before .grant3 in
-    let two = c6 .before .before .before .before .grant2 in
-    let c12 = c6 .before .before .before .before .before .before in
-    let one = c12 .grant in
-    let empty = c12 .before .empty in
-    let a = c12 .before .before .before .args in
-    let lies : Where = record { ptr = a .map .ptr; name = a .map .name } in
-    let list =
-    made (a .first) (a .second) (a .call-sign) (a .draw)
-    (record {
-      granted = one .result .answer;
-      «granted_twice» = two .result .answer;
-      «granted_second» = three .result .answer;
-      proposal = four .result;
-      cancelled = five .result .answer;
-      «cancelled_twice» = six .result .answer;
-      «proposal_after» = seven .result;
-      «granted_again» = eight .result .answer;
-    }) in
-    let run : Run (a .map .now) (empty .result) list (eight .result .next) =
-    step (record { call = grant (a .first); outcome = one .result .answer }) (one .ensures)
-    (step (record { call = grant (a .first); outcome = two .result .answer }) (two .ensures)
-    (step (record { call = grant (a .second); outcome = three .result .answer }) (three .ensures)
-    (step (record { call = propose (a .draw); outcome = four .result })
-    (record { lives = four .lifetimes; lies = lies; post = four .ensures }, refl)
-    (step (record { call = cancel (a .call-sign); outcome = five .result .answer }) (five .ensures)
-    (step (record { call = cancel (a .call-sign); outcome = six .result .answer }) (six .ensures)
-    (step (record { call = propose (a .draw); outcome = seven .result })
-    (record { lives = seven .lifetimes; lies = lies; post = seven .ensures }, refl)
-    (step (record { call = grant (a .first); outcome = eight .result .answer }) (eight .ensures) done))))))) in
-    list-claim (a .map .now) areas e reads (empty .result) (eight .result .next) list (empty .ensures) run .right)
+    let a = c .before .before .before .before .before .before .before .args in
+    playing-ends (now (a .map)) (now (a .calls)) (now (a .mask)) (now (a .table)) (c .before .loop .inv) (c .loop-test .left)
 
 pub play-spec : {M : Type 1} → statement M
 play-spec =
     tie.close
     (tie.spec
+    Inv-loop
+    μ-loop
     empty-requires
-    grant-requires
-    grant-requires-2
-    grant-requires-3
-    propose-requires
-    cancel-requires
-    cancel-requires-2
-    propose-requires-2
-    grant-requires-4
+    loop-holds
+    mul-play-call
+    play-call-requires
+    one-refused-requires
+    add-refused
+    add-i
+    loop-less
+    loop-again
+    same-length
+    same-length-2
     returns)

@@ -1,10 +1,9 @@
--- Document 01, "Holdings to prove by hand count", 1 to 9: the table holds of the definitions. Assumes nothing.
+-- Document 01, "The proposal": what an empty S gives. Assumes nothing.
 use Prim.Native.Nat.{ℕ}
-use mathlib.Core.Path.{_≡_, refl}
-use mathlib.Core.List.{List, [], map}
+use mathlib.Core.Path.{_≡_}
+use mathlib.Core.List.{List, []}
 use Rattle.lists.specs.Filters.{filter, upTo, foremost, firstOr}
 use Rattle.coverage.specs.declared.Holding.{Holding}
-use Rattle.coverage.specs.Blocks.{remainder, roundsUp, wholeBlocks, partial, value, size}
 use Rattle.subset.specs.Sets as sets
 use Rattle.subset.specs.Rule.{smallest}
 use Rattle.proposal.specs.Choices.{
@@ -22,14 +21,7 @@ use Rattle.proposal.specs.Choices.{
   noPart,
 }
 use Rattle.proposal.specs.Best.{isAllWhole, whiteSpace, whitePer, rank, ahead, best, tied, drawn, chosen}
-use Rattle.proposal.specs.Answer.{kindOf, getsBy, firstMark, laterMarks, given, answerOf, proposal}
-use Rattle.proposal.specs.Holdings.{Row, rows}
-
-pub hand-counts : map (λ (r : Row). proposal (r .areas) (r .draw)) rows ≡ map (λ (r : Row). r .comes) rows
-unfolding proposal answerOf given laterMarks firstMark getsBy kindOf chosen drawn tied best ahead rank whitePer whiteSpace isAllWhole
-    noPart makesPart allowedChoices allowed allowedBy share wholeSize partAreas wholeAreas choices totalValue partials
-    smallest sets.setNumber filter upTo foremost firstOr remainder roundsUp wholeBlocks partial value size
-hand-counts = refl
+use Rattle.proposal.specs.Answer.{kindOf, given, answerOf, proposal}
 
 -- "An empty S gives kind 1 and T 0", with no white space and no tied area, whatever the map and the draw
 pub empty-s : (areas : List Holding) (draw : ℕ) → partials areas ≡ []

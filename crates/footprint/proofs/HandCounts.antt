@@ -1,0 +1,39 @@
+-- Document 01, "Holdings to prove by hand count": the table of twelve holds of the definitions. Assumes nothing.
+use mathlib.Core.Path.{_≡_, refl}
+use mathlib.Core.List.{map}
+use Rattle.lists.specs.Sums.{someBelow, sumBelow}
+use Rattle.lists.specs.Filters.{filter, upTo, foremost, firstOr}
+use Rattle.map.specs.Answers.{locate}
+use Rattle.coverage.specs.Blocks.{remainder, roundsUp, wholeBlocks, partial, value, size}
+use Rattle.subset.specs.Sets as sets
+use Rattle.subset.specs.Rule.{smallest, greatest}
+use Rattle.proposal.specs.Choices.{
+  partials,
+  totalValue,
+  choices,
+  wholeAreas,
+  partAreas,
+  wholeSize,
+  share,
+  allowedBy,
+  allowed,
+  allowedChoices,
+  makesPart,
+  noPart,
+}
+use Rattle.proposal.specs.Best.{isAllWhole, whiteSpace, whitePer, rank, ahead, best, tied, drawn, chosen}
+use Rattle.proposal.specs.Answer.{kindOf, getsBy, firstMark, laterMarks, given, answerOf, proposal}
+use Rattle.ring.specs.Ring.{above, below, left, right, someSide, allSides, around, outside, edge, ring}
+use Rattle.rounds.specs.Footprint as outline
+use Rattle.footprint.specs.Footprint.{footprintOf, footprintBy}
+use Rattle.footprint.specs.Holdings.{rows, comes, expected}
+
+pub hand-counts : map comes rows ≡ map expected rows
+unfolding proposal answerOf given laterMarks firstMark getsBy kindOf chosen drawn tied best ahead rank whitePer whiteSpace isAllWhole
+    noPart makesPart allowedChoices allowed allowedBy share wholeSize partAreas wholeAreas choices totalValue partials
+    smallest greatest sets.setNumber sets.totalOf sets.sets sets.takenOf filter upTo foremost firstOr someBelow sumBelow
+    remainder roundsUp wholeBlocks partial value size locate footprintOf footprintBy
+    ring around outside edge someSide allSides above below left right
+    outline.value outline.goesOn outline.rounds outline.growing outline.lastSet outline.overshoots outline.lastRing outline.outer
+    outline.slack outline.ringCells outline.remains outline.keeps outline.leftOut outline.footprint outline.needed
+hand-counts = refl

@@ -1,0 +1,103 @@
+-- `ledger::play_call`: the first word says which call it is, and the arms make it. Assumes nothing.
+use mathlib.Core.Path.{subst}
+use denote.Ref.{now}
+use Rattle.ledger.specs.Calls.{Call}
+use Rattle.ledger.specs.Code.{CallDone}
+use Rattle.ledger.proofs.PlayLaws.{call-grants, call-cancels, call-proposes, call-footprints}
+use borrow.Author.Needs.{needs}
+use Rattle.ledger.proofs.play_call.Statement.{statement}
+use Rattle.ledger.proofs.play_call.Tie as tie
+
+mul-kind : tie.Need-mul-kind
+mul-kind c = search needs
+
+shared-slice-read-kind : tie.Need-shared-slice-read-kind
+shared-slice-read-kind c = search needs
+
+add-word : tie.Need-add-word
+add-word c = search needs
+
+mul-word : tie.Need-mul-word
+mul-word c = search needs
+
+shared-slice-read-word : tie.Need-shared-slice-read-word
+shared-slice-read-word c = search needs
+
+ground-at-requires : tie.Need-ground-at-requires
+ground-at-requires c κs = search needs
+
+play-grant-requires : tie.Need-play-grant-requires
+play-grant-requires c κs = search needs
+
+play-cancel-requires : tie.Need-play-cancel-requires
+play-cancel-requires c κs = search needs
+
+play-proposal-requires : tie.Need-play-proposal-requires
+play-proposal-requires c κs = search needs
+
+play-footprint-requires : tie.Need-play-footprint-requires
+play-footprint-requires c κs = search needs
+
+returns : tie.Need-returns
+returns c =
+    let start = c .before .before .before .before .before .before .before .before .before in
+    let a = start .args in
+    subst (λ (call : Call). CallDone (now (a .map)) (a .register) call (now (a .mask)) (now (a .mask)) (now (a .table)) (now (a .table))
+    (c .play-grant .result))
+    (call-grants (now (a .calls)) (a .at) (now (a .mask)) (now (a .table)) (c .before .before .match .keys1)
+    (c .before .ground-at .result) (c .before .ground-at .ensures))
+    (c .play-grant .ensures (now (a .map)) (now (a .mask)) (now (a .table)))
+
+returns-2 : tie.Need-returns-2
+returns-2 c =
+    let a = c .before .before .before .before .before .before .before .before .args in
+    subst (λ (call : Call). CallDone (now (a .map)) (a .register) call (now (a .mask)) (now (a .mask)) (now (a .table)) (now (a .table))
+    (c .play-cancel .result))
+    (call-cancels (now (a .calls)) (a .at) (now (a .mask)) (now (a .table)) (c .before .match .keys2))
+    (c .play-cancel .ensures (now (a .map)) (now (a .mask)) (now (a .table)))
+
+returns-3 : tie.Need-returns-3
+returns-3 c =
+    let a = c .before .before .before .before .before .before .before .before .args in
+    subst (λ (call : Call). CallDone (now (a .map)) (a .register) call (now (a .mask)) (now (a .mask)) (now (a .table)) (now (a .table))
+    (c .play-proposal .result))
+    (call-proposes (now (a .calls)) (a .at) (now (a .mask)) (now (a .table)) (c .before .match .keys3))
+    (c .play-proposal .ensures (now (a .mask)) (now (a .table)))
+
+same-length : tie.Need-same-length
+same-length c = search needs
+
+same-length-2 : tie.Need-same-length-2
+same-length-2 c = search needs
+
+returns-4 : tie.Need-returns-4
+returns-4 c =
+    let d = c .before .before .before .before in
+    let m = d .before .before .before .match .rest in
+    let a = d .before .before .before .before .before .before .before .before .before .before .args in
+    let f = d .play-footprint in
+    subst (λ (call : Call). CallDone (now (a .map)) (a .register) call (now (a .mask)) (f .last .1 .1 .1 .0) (now (a .table))
+    (f .last .1 .1 .1 .1 .0) (f .result))
+    (call-footprints (now (a .calls)) (a .at) (now (a .mask)) (now (a .table)) (m .0 .0 .1) (m .0 .1) (m .1))
+    (f .ensures)
+
+pub play-call-spec : {M : Type 1} → statement M
+play-call-spec =
+    tie.close
+    (tie.spec
+    mul-kind
+    shared-slice-read-kind
+    add-word
+    mul-word
+    shared-slice-read-word
+    ground-at-requires
+    play-grant-requires
+    play-cancel-requires
+    play-proposal-requires
+    play-footprint-requires
+    returns
+    returns-2
+    returns-3
+    same-length
+    same-length-2
+    returns-4)
