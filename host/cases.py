@@ -5,9 +5,11 @@
     host/cases.py --write    write both files
 
 Everything here was written from document 01 and shares nothing with the crates: maps are taken apart field by field, the
-register is a dictionary, and a proposal is found by trying every choice. A case is M (a map, and numbers to look up in it),
-G (a grant), C (a cancellation), E (from here on an empty register) or P (a map, numbers whose coverage and blocks are asked for,
-and draws to make proposals with)."""
+register is a dictionary, a proposal is found by trying every choice, and a footprint by sets of cells and every subset of its last
+ring. A case is M (a map, and numbers to look up in it), G (a grant), C (a cancellation), E (from here on an empty register), P (a
+map, numbers whose coverage and blocks are asked for, and draws to make proposals with) or F (a map, and footprints to make, each
+with a draw, the bytes of its mask, the entries of its table and the entry from which none may change). The cases stand in blocks
+of 65,536 bytes, and a byte of 0 ends a block."""
 
 import random
 from fractions import Fraction
@@ -61,31 +63,40 @@ def read_map(data):
         start = reader.at
         people = 0
         cells = []
-        for _ in range(rows):
+        spots = []
+        for line in range(rows):
             bits = int.from_bytes(reader.take((columns + 7) // 8), "little")
             if bits >> columns:
                 raise Refused(2)
-            for _ in range(bin(bits).count("1")):
+            for column in range(columns):
+                if not bits >> column & 1:
+                    continue
                 here = reader.field("I", 0, 1000000)
                 latitude = reader.field("i", -32400000, 32400000)
                 longitude = reader.field("i", -64800000, 64800000)
                 people += here
                 cells.append((here, latitude, longitude))
+                spots.append((line, column))
         if not 1 <= people <= 40000000:
             raise Refused(5)
         part = data[start : reader.at]
-        found = dict(number=number, weight=weight, rows=rows, columns=columns, people=people, part=part, cells=cells)
+        found = dict(number=number, weight=weight, rows=rows, columns=columns, people=people, part=part, cells=cells, spots=spots)
         areas.append(found)
     if reader.at != len(data):
         raise Refused(3)
     return areas
 
 
-def map_lines(data, numbers):
+def areas_or_refusal(data):
+    """The areas and 0, or none and the number of the refusal."""
     try:
-        areas, refused = read_map(data), 0
+        return read_map(data), 0
     except Refused as fault:
-        areas, refused = [], fault.args[0]
+        return [], fault.args[0]
+
+
+def map_lines(data, numbers):
+    areas, refused = areas_or_refusal(data)
     lines = [f"map {refused}"]
     for number in numbers:
         lines.append(f"area {number}")
@@ -207,12 +218,12 @@ def few_sums(partial, target):
                 yield (0 if 10 * share >= 9 * size else 1, white, Fraction(white, 100 * weight)), place, number, share
 
 
-def proposal(areas, grounds, draw):
-    """The lines that tell a proposal."""
+def propose(areas, grounds, draw):
+    """The kind, T, the white space, the tied count and for each area its whole blocks and what it gets; or None where 12 refuses."""
     held = [blocks(area, grounds) for area in areas]
     partial = [(value, size, area["weight"]) for area, (_, value, size) in zip(areas, held) if size]
     if len(partial) > 20:
-        return [" refused 12"]
+        return None
     target = sum(value for value, _, _ in partial)
     choices = list((allowed_choices if len(partial) < 9 else few_sums)(partial, target))
     rank = min(choice[0] for choice in choices)
@@ -221,7 +232,7 @@ def proposal(areas, grounds, draw):
     place = tied[draw % len(tied)] if tied else None
     _, _, number, share = min((choice for choice in best if choice[1] == place), key=lambda choice: choice[2])
     kind = 1 if place is None else 2 if rank[0] == 0 else 3
-    lines = [f" kind {kind}", f" target {target}", f" white {rank[1]}", f" tied {len(tied)}"]
+    given = []
     index = 0
     for area, (whole, _, size) in zip(areas, held):
         gets = "nothing"
@@ -231,16 +242,25 @@ def proposal(areas, grounds, draw):
             elif number >> index & 1:
                 gets = "whole"
             index += 1
+        given.append((area, whole, gets))
+    return kind, target, rank[1], len(tied), given, share
+
+
+def proposal(areas, grounds, draw):
+    """The lines that tell a proposal."""
+    found = propose(areas, grounds, draw)
+    if found is None:
+        return [" refused 12"]
+    kind, target, white, tied, given, _ = found
+    lines = [f" kind {kind}", f" target {target}", f" white {white}", f" tied {tied}"]
+    for area, whole, gets in given:
         lines += [f" area {area['number']}", f"  blocks {whole}", f"  {gets}"]
     return lines
 
 
 def proposal_lines(data, register, numbers, draws):
     grounds = list(register.lines.values())
-    try:
-        areas, refused = read_map(data), 0
-    except Refused as fault:
-        areas, refused = [], fault.args[0]
+    areas, refused = areas_or_refusal(data)
     lines = []
     for number in numbers:
         lines.append(f"coverage {number}")
@@ -254,6 +274,107 @@ def proposal_lines(data, register, numbers, draws):
     for draw in draws:
         lines.append(f"propose {draw}")
         lines += [f" refused {refused}"] if refused else proposal(areas, grounds, draw)
+    return lines
+
+
+# ---- document 01: the footprint
+
+
+def beside(spot):
+    line, column = spot
+    return {(line - 1, column), (line + 1, column), (line, column - 1), (line, column + 1)}
+
+
+def rounds(land, covered_spots, carries, share):
+    """The set where the rounds end, and the last ring and the outer set, or None where there is no last ring."""
+    inside = set(covered_spots)
+    if carries(inside) < share:
+        while True:
+            ring = {spot for spot in land - inside if beside(spot) & inside} or land - inside
+            if carries(inside | ring) > share:
+                return inside, ring, inside | ring
+            inside |= ring
+            if carries(inside) == share:
+                return inside, None, None
+    while carries(inside) != share:
+        ring = {spot for spot in inside if beside(spot) - inside}
+        if carries(inside - ring) < share:
+            return inside, ring, inside
+        inside -= ring
+    return inside, None, None
+
+
+def left_out(people, ring, outer, carries, share):
+    """The cells of the last ring that are left out: of every subset that keeps the share the greatest total, then the smallest set number."""
+    cells = sorted(spot for spot in ring if people[spot])
+    if len(cells) <= 10:
+        keeping = []
+        for number in range(2 ** len(cells)):
+            out = {spot for place, spot in enumerate(cells) if number >> place & 1}
+            if carries(outer - out) >= share:
+                keeping.append((-sum(people[spot] for spot in out), number, out))
+        return min(keeping, key=lambda found: found[:2])[2]
+    # more cells: for each total the smallest set number that reaches it
+    numbers = {0: 0}
+    for place, spot in enumerate(cells):
+        for total, number in list(numbers.items()):
+            new = number + 2**place
+            total += people[spot]
+            numbers[total] = min(numbers.get(total, new), new)
+    people_of_outer = sum(people[spot] for spot in outer)
+    unit = carries(outer) // people_of_outer
+    total = max(total for total in numbers if unit * (people_of_outer - total) >= share)
+    return {spot for place, spot in enumerate(cells) if numbers[total] >> place & 1}
+
+
+def footprint(areas, grounds, draw, bytes_lent, entries_lent):
+    """The number of a refusal or 0, the entries needed, the area or None, and the spots of the footprint."""
+    found = propose(areas, grounds, draw)
+    if found is None:
+        return 12, 0, None, set()
+    kind, _, _, _, given, share = found
+    if kind != 3:
+        return 13, 0, None, set()
+    (area,) = (area for area, _, gets in given if gets.startswith("share"))
+    if bytes_lent < area["rows"] * area["columns"]:
+        return 7, 0, None, set()
+    people = {spot: here for spot, (here, _, _) in zip(area["spots"], area["cells"])}
+    unit = 100 * area["weight"]
+    number = area["number"]
+    covered_spots = {spot for spot, (_, *point) in zip(area["spots"], area["cells"])
+                     if any(covers(ground, number, *point) for ground in grounds)}
+
+    def carries(spots):
+        return unit * sum(people[spot] for spot in spots)
+
+    inside, ring, outer = rounds(set(people), covered_spots, carries, share)
+    if ring is None:
+        return 0, 0, area, inside
+    needed = (carries(outer) - share) // unit + 1
+    if entries_lent < needed:
+        return 8, needed, area, set()
+    return 0, needed, area, outer - left_out(people, ring, outer, carries, share)
+
+
+def footprint_lines(data, register, calls):
+    grounds = list(register.lines.values())
+    areas, refused = areas_or_refusal(data)
+    lines = []
+    for draw, bytes_lent, entries_lent, unchanged in calls:
+        lines.append(f"footprint {draw}")
+        number, needed, area, spots = (refused, 0, None, set()) if refused else footprint(areas, grounds, draw, bytes_lent, entries_lent)
+        if number == 8:
+            lines.append(f" needed {needed}")
+        elif number:
+            lines.append(f" refused {number}")
+        else:
+            lines.append(f" area {area['number']}")
+        mask = "." * bytes_lent
+        if number in (0, 8):
+            size = area["rows"] * area["columns"]
+            inside = {line * area["columns"] + column for line, column in spots}
+            mask = "".join("1" if place in inside else "0" for place in range(size)) + mask[size:]
+        lines += [f" mask {mask}", f" unchanged {max(0, entries_lent - unchanged)}"]
     return lines
 
 
@@ -373,6 +494,20 @@ def proposal_case(register, data, numbers, draws):
     return packed + b"".join(struct.pack("<I", draw) for draw in draws), proposal_lines(data, register, numbers, draws)
 
 
+def footprint_case(register, data, calls):
+    """Footprints, each by a draw, the bytes lent and the entries lent; the entry from which none may change is found here."""
+    grounds = list(register.lines.values())
+    full = []
+    for draw, bytes_lent, entries_lent in calls:
+        try:
+            number, needed, _, _ = footprint(read_map(data), grounds, draw, bytes_lent, entries_lent)
+        except Refused:
+            number, needed = 1, 0
+        full.append((draw, bytes_lent, entries_lent, 0 if number else needed))
+    packed = b"F" + struct.pack("<I", len(data)) + data + bytes([len(full)])
+    return packed + b"".join(struct.pack("<IHHH", *call) for call in full), footprint_lines(data, register, full)
+
+
 def random_ground(dice):
     if dice.random() < 0.5:
         return ("area", dice.choice((0, 1, 5, 416, 417, 65535)))
@@ -483,6 +618,110 @@ def proposal_cases(dice):
         yield proposal_case(register, data, (1,), (0, dice.randrange(2**32)))
 
 
+def grid(number, weight, rows, scale=10):
+    """An area from rows of people, None where there is no cell: a cell's latitude is its row and its longitude its column, times a scale."""
+    body = b""
+    for line, here in enumerate(rows):
+        cells = {column: cell(people, line * scale, column * scale) for column, people in enumerate(here) if people is not None}
+        body += row(len(here), cells)
+    return area(number, weight, len(rows), len(rows[0]), body)
+
+
+def over(top, bottom, left, right, scale=10):
+    """A box over rows top to bottom and columns left to right of such an area."""
+    return ("box", top * scale, (bottom + 1) * scale, left * scale, (right + 1) * scale)
+
+
+def needed_for(register, data, draw):
+    return footprint(read_map(data), list(register.lines.values()), draw, 65535, 0)[1]
+
+
+ONE_ROW = [[5, 0, 4, 3, 8]]
+
+
+def random_rows(dice):
+    rows, columns = dice.randint(1, 6), dice.randint(1, 7)
+    most = dice.choice((1, 3, 9, 40))
+    gaps = dice.choice((0, 0.2, 0.5))
+    return [[None if dice.random() < gaps else dice.choice((0, dice.randint(0, most), dice.randint(1, most))) for _ in range(columns)]
+            for _ in range(rows)]
+
+
+def footprint_cases(dice):
+    """Document 01's holdings 10 to 12, and more of their kind."""
+    data = of(grid(1, 1, ONE_ROW))
+    register = Register()
+    yield b"E", ["empty"]
+    # nothing is held: 13 before 7
+    yield footprint_case(register, data, [(0, 0, 0)])
+    for sign in (1, 2, 3):
+        yield grant_case(register, sign, over(0, 0, 2, 3))
+        needed = needed_for(register, data, 0)
+        # enough, one entry short, a mask one byte short, longer buffers, nothing lent
+        lent = [(0, 5, needed), (0, 5, max(0, needed - 1)), (0, 4, needed), (0, 9, needed + 3), (0, 0, 0), (2**32 - 1, 6, 0)]
+        yield footprint_case(register, data, lent)
+    # a cancelled licence no longer counts
+    yield cancel_case(register, 2)
+    yield footprint_case(register, data, [(0, 5, 100)])
+    # refused maps, with nothing touched
+    for broken in (b"", data + b"\0", one(b"\1" + cell(0)), of(square(5), square(5)), of(square(5, 0))):
+        yield footprint_case(register, broken, [(0, 5, 5)])
+    # kinds 1 and 2 are refused by 13
+    for areas in ([(1, 100, 180)], [(1, 100, 100), (1, 100, 100)]):
+        register = Register()
+        yield b"E", ["empty"]
+        drawn, grants = held(register, areas)
+        yield from grants
+        yield footprint_case(register, drawn, [(0, 2, 200), (7, 0, 0)])
+    # twenty-one partial areas are refused by 12
+    register = Register()
+    yield b"E", ["empty"]
+    drawn, grants = held(register, [(1, 100, 35)] * 21)
+    yield from grants
+    yield footprint_case(register, drawn, [(0, 0, 0)])
+    # tied areas: each draw has its own area
+    register = Register()
+    yield b"E", ["empty"]
+    pair = of(grid(1, 1, [[50, 50, 30, 20]]), grid(2, 1, [[10, 40, 100], [None, 0, None]], 10))
+    yield grant_case(register, 1, ("area", 1))
+    yield grant_case(register, 2, ("area", 2))
+    yield grant_case(register, 3, over(0, 0, 0, 0))
+    yield grant_case(register, 4, over(0, 0, 0, 1))
+    yield footprint_case(register, pair, [(draw, 8, 400) for draw in (0, 1, 2, 2**32 - 1)])
+    # a snake, islands, one cell, a gap in the middle, ties in the last ring
+    shapes = [
+        ([[1, 2, 3, 4, 5], [None, None, None, None, 6], [11, 10, 9, 8, 7], [12, None, None, None, None], [13, 14, 15, 16, 17]], over(0, 0, 0, 1)),
+        ([[3, None, 4], [None, None, None], [5, None, 6]], over(0, 0, 0, 0)),
+        ([[9]], over(0, 0, 0, 0)),
+        ([[2, 2, 2], [2, None, 2], [2, 2, 2]], over(0, 2, 0, 2)),
+        ([[1] * 6] * 5, over(1, 2, 2, 3)),
+        ([[7, 0, 0, 0], [0, 0, 0, 0], [0, 0, 0, 1]], over(0, 0, 0, 0)),
+        ([[300, 400, 500, 600, 700, 800, 900]], over(0, 0, 3, 3)),
+    ]
+    for rows, ground in shapes:
+        data = of(grid(7, 3, rows))
+        register = Register()
+        yield b"E", ["empty"]
+        for sign in (1, 2, 3):
+            yield grant_case(register, sign, ground)
+            size = len(rows) * len(rows[0])
+            yield footprint_case(register, data, [(sign, size, 4000), (sign, size + 2, needed_for(register, data, sign))])
+    for _ in range(60):
+        register = Register()
+        yield b"E", ["empty"]
+        areas = [random_rows(dice) for _ in range(dice.choice((1, 1, 2)))]
+        areas = [rows for rows in areas if any(people for here in rows for people in here)] or [[[4]]]
+        data = of(*(grid(number, dice.choice((1, 2, 65535)), rows) for number, rows in enumerate(areas, 1)))
+        for sign in range(1, dice.randint(2, 4)):
+            top, left = dice.randrange(6), dice.randrange(7)
+            ground = over(top, top + dice.randrange(4), left, left + dice.randrange(4))
+            yield grant_case(register, sign, dice.choice((ground, ground, ground, ("area", dice.choice((1, 2))))))
+        draw = dice.randrange(2**32)
+        needed = needed_for(register, data, draw)
+        lent = [(draw, 45, needed), (draw, 42, dice.choice((needed, max(0, needed - 1), 4000)))]
+        yield footprint_case(register, data, lent)
+
+
 def cases():
     dice = random.Random(39)
     for data in fixed_maps():
@@ -493,14 +732,27 @@ def cases():
         yield map_case(damaged(dice, data), numbers[:1])
     yield from register_cases(dice)
     yield from proposal_cases(dice)
+    yield from footprint_cases(dice)
+
+
+def blocks_of_cases(packed):
+    """The cases in blocks of 65,536 bytes, the last one as long as it needs to be."""
+    full = b""
+    block = b""
+    for case in packed:
+        if len(block) + len(case) > 65536:
+            full += block.ljust(65536, b"\0")
+            block = b""
+        block += case
+    return full + block
 
 
 def main():
     pairs = list(cases())
-    packed = b"".join(case for case, _ in pairs)
+    packed = blocks_of_cases([case for case, _ in pairs])
     text = "".join(line + "\n" for _, lines in pairs for line in lines).encode()
-    if len(packed) > 65536:
-        sys.exit(f"{len(packed)} bytes of cases; the program reads 65,536")
+    if len(packed) > 2 * 65536:
+        sys.exit(f"{len(packed)} bytes of cases; the program reads two blocks of 65,536")
     if sys.argv[1:] == ["--write"]:
         (HERE / "stdin").write_bytes(packed)
         (HERE / "stdout").write_bytes(text)

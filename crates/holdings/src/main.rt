@@ -1,7 +1,8 @@
-// Plays a file of cases: maps that are checked and looked up in, and calls on one register. host/cases.py writes the cases and,
-// by an implementation of its own, the lines that must come out.
+// Plays a file of cases: maps that are checked and looked up in, and calls on one register, in up to two blocks of 65,536 bytes.
+// host/cases.py writes the cases and, by an implementation of its own, the lines that must come out.
 use coverage::BlocksAnswer;
 use coverage::CoverageAnswer;
+use footprint::FootprintAnswer;
 use map::Found;
 use map::fields;
 use map::fields::Field;
@@ -12,6 +13,7 @@ use register::GeoBox;
 use register::Ground;
 use register::Licence;
 use register::Register;
+ghost use mathlib.Core.Path.{_≡_};
 ghost use Prim.Native.Nat.{_+_, _≤_, _<_};
 ghost use lib.ListN.{length};
 
@@ -22,24 +24,31 @@ struct Played {
 }
 
 fn main() {
-    let mut cases = io::large_buffer();
-    let n = io::read_full(0, &mut cases);
-    play_all(&cases[..n]);
+    let register = play_block(Register::empty());
+    play_block(register);
 }
 
-fn play_all(s: &[u8]) {
+// The next block of the file, which may be empty, and the register that it leaves.
+fn play_block(register: Register) -> Register {
+    let mut cases = io::large_buffer();
+    let n = io::read_full(0, &mut cases);
+    play_all(&cases[..n], register)
+}
+
+fn play_all(s: &[u8], start: Register) -> Register {
     let mut at: usize = 0;
-    let mut register = Register::empty();
+    let mut register = start;
     while at < s.len() {
         let done = play(&s[at..], register);
         at += done.used;
         let next = done.register;
         register = next;
     }
+    register
 }
 
-// One case, by its first byte: M a map, G a grant, C a cancellation, E an empty register, P proposals. Anything else ends the
-// file.
+// One case, by its first byte: M a map, G a grant, C a cancellation, E an empty register, P proposals, F footprints. Anything else
+// ends the block.
 fn play(s: &[u8], register: Register) -> Played
     requires { ⌜ 0 < length (now s) ⌝ }
     ensures { λ r. ⌜ (0 < r .used) × (r .used ≤ length (now (s .entry))) ⌝ }
@@ -65,6 +74,10 @@ fn play(s: &[u8], register: Register) -> Played
             let used = 1 + proposal_case(rest, register);
             Played { used, register }
         }
+        b'F' => {
+            let used = 1 + footprint_case(rest, register);
+            Played { used, register }
+        }
         _ => Played {
             used: s.len(),
             register,
@@ -72,18 +85,28 @@ fn play(s: &[u8], register: Register) -> Played
     }
 }
 
+// Where the map ends whose length and bytes stand first; its bytes start at 4. 0 where it isn't there whole.
+fn map_end(s: &[u8]) -> usize
+    ensures { λ r. ⌜ r ≤ length (now (s .entry)) ⌝ }
+{
+    if s.len() < 4 {
+        return 0;
+    }
+    let size = u32_at(s, 0) as usize;
+    if s.len() - 4 < size {
+        return 0;
+    }
+    4 + size
+}
+
 // A map: its length, its bytes, and the numbers that are looked up in it.
 fn map_case(s: &[u8]) -> usize
     ensures { λ r. ⌜ r ≤ length (now (s .entry)) ⌝ }
 {
-    if s.len() < 4 {
+    let end = map_end(s);
+    if end < 4 {
         return s.len();
     }
-    let size = u32_at(s, 0) as usize;
-    if s.len() - 4 < size {
-        return s.len();
-    }
-    let end = 4 + size;
     let map = &s[4..end];
     print(b"map", map::check(map).number() as u64);
     end + look_ups(&s[end..], map)
@@ -207,14 +230,10 @@ fn cancel_case(s: &[u8], register: Register) -> Played
 fn proposal_case(s: &[u8], register: Register) -> usize
     ensures { λ r. ⌜ r ≤ length (now (s .entry)) ⌝ }
 {
-    if s.len() < 4 {
+    let end = map_end(s);
+    if end < 4 {
         return s.len();
     }
-    let size = u32_at(s, 0) as usize;
-    if s.len() - 4 < size {
-        return s.len();
-    }
-    let end = 4 + size;
     let map = &s[4..end];
     let rest = &s[end..];
     if rest.len() < 2 {
@@ -315,6 +334,132 @@ fn given(areas: [AreaAnswer; 32], count: usize) {
         }
         i += 1;
     }
+}
+
+// Footprints: a map's length and bytes, and the calls.
+fn footprint_case(s: &[u8], register: Register) -> usize
+    ensures { λ r. ⌜ r ≤ length (now (s .entry)) ⌝ }
+{
+    let end = map_end(s);
+    if end < 4 {
+        return s.len();
+    }
+    let map = &s[4..end];
+    end + footprints(&s[end..], map, register)
+}
+
+// A count of calls, and the calls.
+fn footprints(s: &[u8], map: &[u8], register: Register) -> usize
+    ensures { λ r. ⌜ r ≤ length (now (s .entry)) ⌝ }
+{
+    if s.len() == 0 {
+        return 0;
+    }
+    let count = s[0];
+    let mut used: usize = 1;
+    let mut i: u8 = 0;
+    while i < count {
+        if s.len() - used < 10 {
+            return s.len();
+        }
+        if !outlined(&s[used..], map, register) {
+            return s.len();
+        }
+        used += 10;
+        i += 1;
+    }
+    used
+}
+
+// One call: the draw, the bytes of the mask, the entries of the table, and the entry from which none may change. False where it
+// asks for more bytes or entries than there are to lend.
+fn outlined(s: &[u8], map: &[u8], register: Register) -> bool {
+    let bytes = u16_at(s, 4) as usize;
+    let entries = u16_at(s, 6) as usize;
+    let mut mask = mask_to_lend();
+    let mut table = table_to_lend();
+    if bytes <= 64 {
+        if entries <= 4096 {
+            outline(s, map, register, &mut mask[..bytes], &mut table[..entries]);
+            return true;
+        }
+    }
+    line(b" too long");
+    false
+}
+
+// 64 bytes to lend: 9 is no byte of a footprint, so a 9 that is left was not written.
+fn mask_to_lend() -> [u8; 64]
+    ensures { λ r. ⌜ 64 ≡ length r ⌝ }
+{
+    [9u8; 64]
+}
+
+// 4,096 entries to lend: 777 is more than the places that a mask here can have, so a 777 that is left was not written.
+fn table_to_lend() -> [u16; 4096]
+    ensures { λ r. ⌜ 4096 ≡ length r ⌝ }
+{
+    [777u16; 4096]
+}
+
+// The answer of a call, the mask that it leaves, and how much of the table it leaves as it was.
+fn outline(s: &[u8], map: &[u8], register: Register, mask: &mut [u8], table: &mut [u16]) {
+    let draw = u32_at(s, 0);
+    print(b"footprint", draw as u64);
+    answered(footprint::footprint(map, register, draw, mask, table));
+    show_mask(mask);
+    let from = u16_at(s, 8) as usize;
+    print(b" unchanged", unchanged(table, from));
+}
+
+fn answered(answer: FootprintAnswer) {
+    let refused = answer.refusal();
+    match answer {
+        FootprintAnswer::TableShort(needed) => print(b" needed", needed as u64),
+        FootprintAnswer::Made(number) => print(b" area", number as u64),
+        _ => print(b" refused", refused as u64),
+    }
+}
+
+// A character for each byte of a mask.
+fn show_mask(mask: &[u8]) {
+    io::write_all(1, b" mask ");
+    let mut i: usize = 0;
+    while i < mask.len() {
+        show_byte(mask[i]);
+        i += 1;
+    }
+    io::write_all(1, b"\n");
+}
+
+fn show_byte(b: u8) {
+    match b {
+        0 => {
+            io::write_all(1, b"0");
+        }
+        1 => {
+            io::write_all(1, b"1");
+        }
+        9 => {
+            io::write_all(1, b".");
+        }
+        _ => {
+            io::write_all(1, b"?");
+        }
+    }
+}
+
+// How many entries from a position on hold 777.
+fn unchanged(table: &[u16], from: usize) -> u64 {
+    let mut count: u64 = 0;
+    let mut i = from;
+    while i < table.len() {
+        if table[i] == 777 {
+            count += 1;
+        }
+        i += 1;
+    }
+    count
 }
 
 // The u16 at a position, 0 past the end.

@@ -6,13 +6,10 @@ use Rattle.holdings.proofs.play_all.Statement.{statement}
 use Rattle.holdings.proofs.play_all.Tie as tie
 
 abbrev Inv-loop : tie.InvT-loop
-Inv-loop s at₀ register₀ at register = at ≤ length s
+Inv-loop s start at₀ at register = at ≤ length s
 
 abbrev μ-loop : tie.MeasureT-loop
-μ-loop s at₀ register₀ at register = length s - at
-
-empty-requires : tie.Need-empty-requires Inv-loop μ-loop
-empty-requires c κs = search needs
+μ-loop s start at₀ at register = length s - at
 
 loop-holds : tie.Need-loop-holds Inv-loop μ-loop
 loop-holds c = search needs
@@ -47,7 +44,6 @@ play-all-spec =
     (tie.spec
     Inv-loop
     μ-loop
-    empty-requires
     loop-holds
     sub-play
     part-play-start
