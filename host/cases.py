@@ -305,7 +305,7 @@ def rounds(land, covered_spots, carries, share):
 
 
 def left_out(people, ring, outer, carries, share):
-    """The cells of the last ring that are left out: of every subset that keeps the share the greatest total, then the smallest set number."""
+    """The cells of the last ring that are left out: of all subsets that keep the share the greatest total, then the smallest number."""
     cells = sorted(spot for spot in ring if people[spot])
     if len(cells) <= 10:
         keeping = []
@@ -619,7 +619,7 @@ def proposal_cases(dice):
 
 
 def grid(number, weight, rows, scale=10):
-    """An area from rows of people, None where there is no cell: a cell's latitude is its row and its longitude its column, times a scale."""
+    """An area from rows of people, None without a cell: latitude is the row and longitude the column, times a scale."""
     body = b""
     for line, here in enumerate(rows):
         cells = {column: cell(people, line * scale, column * scale) for column, people in enumerate(here) if people is not None}
@@ -690,7 +690,7 @@ def footprint_cases(dice):
     yield footprint_case(register, pair, [(draw, 8, 400) for draw in (0, 1, 2, 2**32 - 1)])
     # a snake, islands, one cell, a gap in the middle, ties in the last ring
     shapes = [
-        ([[1, 2, 3, 4, 5], [None, None, None, None, 6], [11, 10, 9, 8, 7], [12, None, None, None, None], [13, 14, 15, 16, 17]], over(0, 0, 0, 1)),
+        ([[1, 2, 3, 4, 5], [None] * 4 + [6], [11, 10, 9, 8, 7], [12] + [None] * 4, [13, 14, 15, 16, 17]], over(0, 0, 0, 1)),
         ([[3, None, 4], [None, None, None], [5, None, 6]], over(0, 0, 0, 0)),
         ([[9]], over(0, 0, 0, 0)),
         ([[2, 2, 2], [2, None, 2], [2, 2, 2]], over(0, 2, 0, 2)),
