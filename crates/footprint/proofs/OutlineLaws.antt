@@ -49,7 +49,7 @@ module _ {s : List ℕ} {a : Area} (h : AreaHolds s a) (licences : List Licence)
   pub whole-value : value (partArea a) (partArea a .cells) ≡ size (holdingOf licences a)
   unfolding value size
   whole-value =
-      ap (λ (p : ℕ). 100 * a .head .weight * p) (people-sum (a .head .columns) (a .head .rows) (a .grid) (h .grid) (h .columns .0))
+      ap (λ (p : ℕ). 100 * a .head .weight * p) (people-sum (a .head .columns) (a .head .rows) (a .grid) (h .grid))
 
   -- what demand 3 says of its footprint
   pub outline-right : (share : ℕ) → Fits licences share a

@@ -98,16 +98,13 @@ sum-from f p a (suc m) =
     ap (sumBelow f p) (add-suc a m) ∙ omega arith
 
 -- a sum of so many numbers, each at most k
-pub sum-most-below : (f : ℕ → ℕ) (p : ℕ → Bool) (k n : ℕ) → ((i : ℕ) → i < n → f i ≤ k) → sumBelow f p n ≤ k * n
+pub sum-most : (f : ℕ → ℕ) (p : ℕ → Bool) (k n : ℕ) → ((i : ℕ) → i < n → f i ≤ k) → sumBelow f p n ≤ k * n
 unfolding sumBelow
-sum-most-below f p k zero h = omega arith
-sum-most-below f p k (suc n) h =
-    let a = sum-most-below f p k n (λ i l. h i (omega arith)) in
+sum-most f p k zero h = omega arith
+sum-most f p k (suc n) h =
+    let a = sum-most f p k n (λ i l. h i (omega arith)) in
     let b = h n (omega arith) in
     by-test (p n) (λ t. rw t (omega (arith, mul-suc k n))) (λ t. rw t (omega (arith, mul-suc k n)))
-
-pub sum-most : (f : ℕ → ℕ) (p : ℕ → Bool) (k n : ℕ) → ((i : ℕ) → f i ≤ k) → sumBelow f p n ≤ k * n
-sum-most f p k n h = sum-most-below f p k n (λ i l. h i)
 
 -- a sum over the numbers below n that pass, as a list
 pub sum-filter : (f : ℕ → ℕ) (p : ℕ → Bool) (n : ℕ) → total f (filter p (upTo n)) ≡ sumBelow f p n

@@ -1,4 +1,4 @@
-// What the crates above read of a map from a position: areas, and the people in their rows. No way in for users.
+// What the crates above read of a map from a position: places, areas, and the people in their rows. No way in for users.
 use super::Area;
 use super::Cell;
 use super::Fault;

@@ -1,40 +1,29 @@
 -- Laws of an area's places that the crates above cite. Assumes nothing.
-use Prim.Native.Nat.{ℕ, zero, suc, _+_, _*_, _/_, _%_, _≤_, _<_}
+use Prim.Native.Nat.{ℕ, zero, suc, _+_, _*_, _/_, _%_, _≤_}
 use mathlib.Core.Path.{_≡_, refl, sym, ap, subst, _∙_}
 use mathlib.Core.List.{List, []}
-use mathlib.Core.Bool.{Bool, true, false, cond}
+use mathlib.Core.Bool.{Bool, true, cond}
 use native.Mathlib.Omega.{arith}
 use native.Mathlib.Nat.{suc-mul, zero-mul}
 use lib.Dec.{ltb}
-use lib.IntN.{ℤ}
 use lib.ListN.{length, getD, take, List·getD-eq-default}
 use lib.Seq.{take-length}
 use borrow.Author.Tests.{ltb-true, ltb-false}
 use Rattle.lists.specs.Sums.{All, total, sumBelow}
-use Rattle.lists.proofs.Tests.{by-test, not-both, both}
+use Rattle.lists.proofs.Tests.{by-test, both}
 use Rattle.lists.proofs.SumLaws.{all-getD, total-next}
 use Rattle.lists.proofs.BelowLaws.{sum-same, sum-from}
 use Rattle.map.specs.Reading.{Read, good}
 use Rattle.map.specs.Format.{Place, gap, cell, peopleAt, population}
 use Rattle.map.specs.Counting.{walkable}
 use Rattle.map.specs.Accepted.{PlaceHolds, RowHolds, GridHolds}
-use Rattle.places.specs.Places.{placeOf, isCell, isCovered, isRead, Lists, canLayOut}
+use Rattle.places.specs.Places.{placeOf, isCell, isRead, Lists, canLayOut}
 use Rattle.places.proofs.LayLaws.{place-in-row}
 use Rattle.places.proofs.OutLaws.{can-all}
 
 -- ---- one place
 
--- a place without a cell has no people
-pub gap-none : (p : Place) → isCell p ≡ false → peopleAt p ≡ 0
-gap-none gap h = refl
-gap-none (cell c) h = not-both refl h
-
--- only a cell is covered
-pub covered-cell : (always : ℕ) (edges : List ℤ) (p : Place) → isCovered always edges p ≡ true → isCell p ≡ true
-covered-cell always edges gap h = h
-covered-cell always edges (cell c) h = refl
-
--- so the people of a place are those of its cell
+-- the people of a place are those of its cell
 cell-people : (p : Place) → cond (isCell p) (peopleAt p) 0 ≡ peopleAt p
 cell-people gap = refl
 cell-people (cell c) = refl
@@ -101,8 +90,8 @@ module _ (columns rows : ℕ) (grid : List (List Place)) (g : GridHolds columns 
       ∙ sym (total-next (total peopleAt) grid n [] (omega arith))
 
   -- "An area's population is the sum of its cells' people": counted by place
-  pub people-sum : 0 < columns → sumBelow people cells (rows * columns) ≡ population grid
-  people-sum h =
+  pub people-sum : sumBelow people cells (rows * columns) ≡ population grid
+  people-sum =
       rows-sum rows (omega arith)
       ∙ ap (total (total peopleAt)) (ap (λ (k : ℕ). take k grid) (sym (g .0)) ∙ take-length grid)
 

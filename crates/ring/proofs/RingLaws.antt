@@ -114,10 +114,6 @@ pub ring-below : (g : Bool) (cells f : Places) (n columns i : ℕ) → ring g ce
 ring-below true cells f n columns i h = ring-outside cells f n columns i h .low
 ring-below false cells f n columns i h = edge-in cells f n columns i (sym (ring-edge cells f n columns i) ∙ h) .0
 
--- growing, it has a cell
-pub ring-cell : (cells f : Places) (n columns i : ℕ) → ring true cells f n columns i ≡ true → cells i ≡ true
-ring-cell cells f n columns i h = ring-outside cells f n columns i h .cell
-
 -- ---- the ring goes by the places of the grid alone
 
 -- a test, and another that agrees with a third where the first passes

@@ -64,7 +64,7 @@ pub fn wipe(mask: &mut [u8], rows: usize, columns: usize)
 }
 
 // Whether there are so many bytes that each place has one, and the sizes are in their limits.
-fn fits(rows: usize, columns: usize, bytes: usize) -> bool
+pub fn fits(rows: usize, columns: usize, bytes: usize) -> bool
     ensures { λ r. ⌜ r ≡ fits rows columns bytes ⌝ }
 {
     if columns < 1 {

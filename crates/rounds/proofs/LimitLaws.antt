@@ -13,7 +13,7 @@ use Rattle.units.specs.Sums.{capped}
 use Rattle.units.proofs.Laws.{exact}
 use Rattle.lists.specs.Sums.{someBelow, sumBelow}
 use Rattle.lists.proofs.Tests.{first-of, second-of}
-use Rattle.lists.proofs.BelowLaws.{none-below, some-below, sum-most-below}
+use Rattle.lists.proofs.BelowLaws.{none-below, some-below, sum-most}
 use Rattle.ring.specs.Ring.{Places, shown, fits}
 use Rattle.ring.proofs.RingLaws.{Sizes, fits-in}
 use Rattle.rounds.specs.Footprint.{value}
@@ -83,7 +83,7 @@ counted-ends {mask} {people} {n} {byte} {sum} {i} c h = let e : i ≡ n = omega 
 -- the people of a set
 pub set-most : (people : List ℕ) (f : Places) (n : ℕ) → ((i : ℕ) → i < n → getD people i 0 ≤ 1_000_000) → n ≤ 65535
     → sumBelow (λ i. getD people i 0) f n ≤ 65535 * 1_000_000
-set-most people f n few l = omega (arith, sum-most-below (λ i. getD people i 0) f 1_000_000 n few)
+set-most people f n few l = omega (arith, sum-most (λ i. getD people i 0) f 1_000_000 n few)
 
 value-most : (weight people : ℕ) → weight ≤ 65535 → people ≤ 65535 * 1_000_000 → 100 * weight * people ≤ 6553500 * 65535000000
 value-most weight people l m = let u : 100 * weight ≤ 6553500 = omega arith in mul-le-mul u m

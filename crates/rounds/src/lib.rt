@@ -34,22 +34,13 @@ struct Reached {
 fn sizes_fit(rows: usize, columns: usize, mask: usize, cells: usize, people: usize) -> bool
     ensures { λ r. ⌜ r ≡ sizesFit rows columns mask cells people ⌝ }
 {
-    if columns < 1 {
+    if !ring::fits(rows, columns, mask) {
         return false;
     }
-    if 256 < columns {
-        return false;
-    }
-    if 256 < rows {
+    if !ring::fits(rows, columns, cells) {
         return false;
     }
     let n = rows * columns;
-    if mask < n {
-        return false;
-    }
-    if cells < n {
-        return false;
-    }
     if people < n {
         return false;
     }

@@ -5,16 +5,15 @@ use mathlib.Core.Bool.{Bool, true, false, cond, _&&_, _||_}
 use mathlib.Core.List.{List, [], _∷_, _++_, map, append-nil, List·Memᴰ}
 use native.Mathlib.Omega.{arith}
 use lib.Dec.{ltb, leb, eqb}
-use lib.ListN.{length, getD}
+use lib.ListN.{length}
 use borrow.Author.Tests.{ltb-true, leb-true, eqb-true, lt-ltb, le-leb, eq-eqb}
 use Rattle.lists.specs.Sums.{sumBelow}
 use Rattle.lists.specs.Filters.{filter, upTo, among}
 use Rattle.lists.proofs.Tests.{by-test, not-both, both, first-of, second-of}
-use Rattle.lists.proofs.FilterLaws.{mem-filter, filter-below, filter-next, upTo-below, map-same, among-mem, mem-among}
+use Rattle.lists.proofs.FilterLaws.{mem-filter, filter-next, upTo-below, map-same, among-mem, mem-among}
 use Rattle.lists.proofs.BelowLaws.{sum-same, sum-filter}
 use Rattle.subset.specs.Sets.{totalOf, takenOf}
-use Rattle.subset.specs.Rule.{theSubset}
-use Rattle.subset.specs.Marked.{peopleAt, candidates, leftOut, roomy}
+use Rattle.subset.specs.Marked.{candidates, roomy}
 use Rattle.subset.proofs.SetLaws.{total-marks}
 
 -- ---- room
@@ -39,25 +38,13 @@ module _ (mask people n slack table : ℕ) where
   pub no-room : ((slack < table) × (n ≤ 65535) × (n ≤ mask) × (n ≤ people) → ⊥) → roomy mask people n slack table ≡ false
   no-room h = by-test (roomy mask people n slack table) (λ t. absurd (h (roomy-out t))) (λ t. t)
 
--- ---- masks that show one ring
+-- ---- the candidates
 
 -- a candidate is a place below n
 pub candidate-low : (mask people : List ℕ) (n i : ℕ) → List·Memᴰ i (candidates mask people n) → i < n
 unfolding candidates
 candidate-low mask people n i m =
     upTo-below n i (mem-filter _ (upTo n) i m .0)
-
-module _ (mask other people counts : List ℕ) (n : ℕ) (rings : (i : ℕ) → i < n → eqb (getD mask i 0) 2 ≡ eqb (getD other i 0) 2)
-    (same : (i : ℕ) → i < n → peopleAt people i ≡ peopleAt counts i) where
-  pub candidates-same : candidates mask people n ≡ candidates other counts n
-  unfolding candidates
-  candidates-same = filter-below _ _ n (λ i h. rw (rings i h, same i h))
-
-  pub left-out-same : (slack : ℕ) → leftOut mask people n slack ≡ leftOut other counts n slack
-  unfolding leftOut
-  left-out-same slack =
-      let cells = candidates other counts n in
-      rw (candidates-same, map-same (peopleAt people) (peopleAt counts) cells (λ i m. same i (candidate-low other counts n i m)))
 
 -- ---- what a set takes of a list
 
@@ -143,17 +130,3 @@ total-taken f p n set e =
         let m = among-mem (filter p (upTo n)) i (taken-some i (filter p (upTo n)) set h) in
         rw (mem-filter p (upTo n) i m .1)
     once i false h = by-test (p i) (λ t. rw t) (λ t. rw t)
-
--- ---- a place that is left out is a cell of the ring with people
-
-pub left-out-cell : (mask people : List ℕ) (n slack i : ℕ) → among i (leftOut mask people n slack) ≡ true
-    → (i < n) × (eqb (getD mask i 0) 2 ≡ true) × (0 < peopleAt people i)
-unfolding leftOut candidates
-left-out-cell mask people n slack i h =
-    let cells = candidates mask people n in
-    let m = among-mem cells i (taken-some i cells (theSubset (map (peopleAt people) cells) slack) h) in
-    let r = mem-filter _ (upTo n) i m in (
-      upTo-below n i (r .0),
-      first-of (eqb (getD mask i 0) 2) (ltb 0 (peopleAt people i)) (r .1),
-      ltb-true 0 (peopleAt people i) (second-of (eqb (getD mask i 0) 2) (ltb 0 (peopleAt people i)) (r .1)),
-    )
