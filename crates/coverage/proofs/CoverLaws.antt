@@ -20,6 +20,7 @@ use Rattle.register.specs.declared.GeoBox.{GeoBox}
 use Rattle.register.specs.declared.Ground.{Ground}
 use Rattle.register.specs.declared.Ground.the-variants as ground
 use Rattle.register.specs.declared.Licence.{Licence}
+use Rattle.register.specs.declared.FlatLicence.{FlatLicence}
 use Rattle.register.specs.declared.Boxes.{Boxes}
 use Rattle.register.specs.Licences.{inForce}
 use Rattle.register.specs.Grounds.{isArea, isBox, names, noBox, boxFrom, BoxesDone}
@@ -52,7 +53,7 @@ if-covered p false = mul-zero p
 
 -- ---- the edges that the walk takes
 
-pub edges-size : {ps : List Licence} {b : Boxes} → BoxesDone ps b → length (take (4 * b .count) (b .edges)) ≡ 4 * b .count
+pub edges-size : {ps : List FlatLicence} {b : Boxes} → BoxesDone ps b → length (take (4 * b .count) (b .edges)) ≡ 4 * b .count
 edges-size {ps} {b} d =
     let few = d .counts .few in
     let size = d .edges .size in
@@ -61,7 +62,7 @@ edges-size {ps} {b} d =
 -- ---- all licences in force: `always` of them have the area, and `b` has the boxes of the others
 
 module _
-    {ps : List Licence}
+    {ps : List FlatLicence}
     {b : Boxes}
     (d : BoxesDone ps b)
     (number : ℕ)

@@ -13,7 +13,7 @@ use Rattle.register.specs.declared.Licence.{Licence}
 use Rattle.register.specs.declared.Register.{Register}
 use Rattle.register.specs.declared.Granted.{Granted}
 use Rattle.register.specs.declared.Cancelled.{Cancelled}
-use Rattle.register.specs.Licences.{freePlace, inForce, strike}
+use Rattle.register.specs.Licences.{licenceOf, freePlace, inForce, strike}
 use Rattle.register.specs.Rules.{grantNumber, cancelNumber, limit, grantRule, cancelRule}
 use Rattle.register.specs.Contracts.{GrantDone, CancelDone}
 use Rattle.register.specs.Sums.{SameLicences, signs}
@@ -86,7 +86,7 @@ empty-same r e f = simp e (go limit)
   where
     go : (n : ℕ) → total f (inForce (replicate n freePlace)) ≡ 0
     go zero = refl
-    go (suc n) = simp (sign-is 0 freePlace refl) (go n)
+    go (suc n) = simp (sign-is 0 (licenceOf freePlace) refl) (go n)
 
 -- ---- a proposal counts just the ledger's lines
 

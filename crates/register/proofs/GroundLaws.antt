@@ -18,8 +18,9 @@ use Rattle.register.specs.declared.GeoBox.{GeoBox}
 use Rattle.register.specs.declared.Ground.{Ground}
 use Rattle.register.specs.declared.Ground.the-variants.{Area, Box}
 use Rattle.register.specs.declared.Licence.{Licence}
+use Rattle.register.specs.declared.FlatLicence.{FlatLicence}
 use Rattle.register.specs.declared.Boxes.{Boxes}
-use Rattle.register.specs.Licences.{freePlace, hasSign, inForce}
+use Rattle.register.specs.Licences.{licenceOf, freePlace, hasSign, inForce}
 use Rattle.register.specs.Sums.{atPlace, passesAt}
 use Rattle.register.specs.Grounds.{isBox, hasBox, noBox, boxOf, placeBox, boxFrom, EdgesDone, BoxesDone}
 use Rattle.register.proofs.Laws.{sign-is, sign-not}
@@ -47,45 +48,45 @@ module _ (l : Licence) where
 -- ---- a sum over the licences in force, place by place
 
 -- the invariant of the loop at place i
-pub record Counted (f : Licence → ℕ) (ps : List Licence) (i sum : ℕ) : Type 0 where
+pub record Counted (f : Licence → ℕ) (ps : List FlatLicence) (i sum : ℕ) : Type 0 where
   pub inside : i ≤ length ps
   pub small : sum ≤ i
-  pub is : sum ≡ total (atPlace f) (take i ps)
+  pub is : sum ≡ total (λ p. atPlace f (licenceOf p)) (take i ps)
 
-pub count-starts : {f : Licence → ℕ} {ps : List Licence} → Counted f ps 0 0
+pub count-starts : {f : Licence → ℕ} {ps : List FlatLicence} → Counted f ps 0 0
 count-starts {f} {ps} = record { inside = omega arith; small = omega arith; is = refl }
 
-module _ {f : Licence → ℕ} {ps : List Licence} {i sum : ℕ} (w : Counted f ps i sum) where
-  pub count-turns : {n : ℕ} → i < length ps → n ≡ atPlace f (getD ps i freePlace) → n ≤ 1 → Counted f ps (i + 1) (sum + n)
+module _ {f : Licence → ℕ} {ps : List FlatLicence} {i sum : ℕ} (w : Counted f ps i sum) where
+  pub count-turns : {n : ℕ} → i < length ps → n ≡ atPlace f (licenceOf (getD ps i freePlace)) → n ≤ 1 → Counted f ps (i + 1) (sum + n)
   count-turns {n} b e s = record {
     inside = omega arith;
     small = omega (arith, w .small);
     is = (λ j. w .is j + e j)
-        ∙ sym (total-next (atPlace f) ps i freePlace b)
-        ∙ ap (λ (k : ℕ). total (atPlace f) (take k ps)) (sym (add-one i));
+        ∙ sym (total-next (λ p. atPlace f (licenceOf p)) ps i freePlace b)
+        ∙ ap (λ (k : ℕ). total (λ p. atPlace f (licenceOf p)) (take k ps)) (sym (add-one i));
   }
 
   pub count-ends : length ps ≤ i → sum ≡ total f (inForce ps)
-  count-ends b = w .is ∙ ap (total (atPlace f)) (take-all i ps b) ∙ sym (in-force-total f ps)
+  count-ends b = w .is ∙ ap (total (λ p. atPlace f (licenceOf p))) (take-all i ps b) ∙ sym (in-force-total f ps)
 
 -- ---- the last place with a box in force
 
-module _ (ps : List Licence) where
+module _ (ps : List FlatLicence) where
   -- no place from n on has a box in force
   abbrev pub NonePast : ℕ → Type 0
-  NonePast n = (i : ℕ) → n ≤ i → passesAt hasBox (getD ps i freePlace) ≡ false
+  NonePast n = (i : ℕ) → n ≤ i → passesAt hasBox (licenceOf (getD ps i freePlace)) ≡ false
 
   pub last-starts : {n : ℕ} → length ps ≡ n → NonePast n
   last-starts {n} e i b =
-      ap (passesAt hasBox) (List·getD-eq-default ps freePlace (omega arith)) ∙ free-passes freePlace hasBox refl
+      ap (λ p. passesAt hasBox (licenceOf p)) (List·getD-eq-default ps freePlace (omega arith)) ∙ free-passes (licenceOf freePlace) hasBox refl
 
-  pub last-turns : {n : ℕ} → NonePast n → passesAt hasBox (getD ps (n - 1) freePlace) ≡ false → NonePast (n - 1)
+  pub last-turns : {n : ℕ} → NonePast n → passesAt hasBox (licenceOf (getD ps (n - 1) freePlace)) ≡ false → NonePast (n - 1)
   last-turns {n} past h i b =
       by-test (leb n i)
       (λ t. past i (leb-true n i t))
       (λ t.
       let e : i ≡ n - 1 = omega (arith, leb-false n i t) in
-      ap (λ (k : ℕ). passesAt hasBox (getD ps k freePlace)) e ∙ h)
+      ap (λ (k : ℕ). passesAt hasBox (licenceOf (getD ps k freePlace))) e ∙ h)
 
 -- ---- the edges, box by box
 
@@ -161,10 +162,10 @@ module _ (l : List ℤ) (n i : ℕ) (b : GeoBox) where
         λ t. record { south = south t; north = north t; west = west t; east = east t }
 
 -- the invariant of the loop over the first n places, at place i
-pub record Filled (ps : List Licence) (n i : ℕ) (edges : List ℤ) : Type 0 where
+pub record Filled (ps : List FlatLicence) (n i : ℕ) (edges : List ℤ) : Type 0 where
   pub inside : i ≤ n
   pub size : length edges ≡ 256
-  pub each : (j : ℕ) → j < i → boxFrom edges n j ≡ placeBox (getD ps j freePlace)
+  pub each : (j : ℕ) → j < i → boxFrom edges n j ≡ placeBox (licenceOf (getD ps j freePlace))
   pub rest : (k : ℕ) → 4 * n ≤ k → getD edges k (pos 0) ≡ pos 0
 
 -- no edge is written yet
@@ -173,7 +174,7 @@ blank zero k = refl
 blank (suc n) zero = refl
 blank (suc n) (suc k) = blank n k
 
-pub fill-starts : (ps : List Licence) (n : ℕ) → Filled ps n 0 (replicate 256 (pos 0))
+pub fill-starts : (ps : List FlatLicence) (n : ℕ) → Filled ps n 0 (replicate 256 (pos 0))
 fill-starts ps n = record {
   inside = omega arith;
   size = length-replicate 256 (pos 0);
@@ -181,8 +182,8 @@ fill-starts ps n = record {
   rest = λ k h. blank 256 k;
 }
 
-module _ {ps : List Licence} {n i : ℕ} {edges : List ℤ} (w : Filled ps n i edges) where
-  pub fill-turns : {b : GeoBox} → n ≤ 64 → i < n → b ≡ placeBox (getD ps i freePlace) → Filled ps n (i + 1) (boxSet edges n i b)
+module _ {ps : List FlatLicence} {n i : ℕ} {edges : List ℤ} (w : Filled ps n i edges) where
+  pub fill-turns : {b : GeoBox} → n ≤ 64 → i < n → b ≡ placeBox (licenceOf (getD ps i freePlace)) → Filled ps n (i + 1) (boxSet edges n i b)
   fill-turns {b} few h e =
       let s = w .size in
       let room : 4 * n ≤ length edges = omega arith in
@@ -194,7 +195,7 @@ module _ {ps : List Licence} {n i : ℕ} {edges : List ℤ} (w : Filled ps n i e
             let same : j ≡ i = omega (arith, leb-true i j t) in
             ap (boxFrom (boxSet edges n i b) n) same
             ∙ box-here edges n i b h room ∙ e
-            ∙ ap (λ (m : ℕ). placeBox (getD ps m freePlace)) (sym same))
+            ∙ ap (λ (m : ℕ). placeBox (licenceOf (getD ps m freePlace))) (sym same))
             (λ t.
             let less : j < i = leb-false i j t in
             box-other edges n i b h room j (omega arith) (λ d. omega arith) ∙ w .each j less);
@@ -236,11 +237,12 @@ module _ (test : GeoBox → Bool) where
         go (Box b) = refl
 
     -- the boxes that are handed out and pass are those of the licences in force
-    pub boxes-total : {ps : List Licence} {r : Boxes} → BoxesDone ps r →
+    pub boxes-total : {ps : List FlatLicence} {r : Boxes} → BoxesDone ps r →
         count (λ i. test (boxFrom (r .edges) (r .count) i)) (r .count) ≡ total (λ l. flag (isBox test (l .ground))) (inForce ps)
     boxes-total {ps} {r} d =
-        count-same (λ i. test (boxFrom (r .edges) (r .count) i)) (λ i. passesAt boxPasses (getD ps i freePlace)) (r .count)
-        (λ i b. ap test (d .edges .each i b) ∙ place-passes (getD ps i freePlace))
-        ∙ count-total (passesAt boxPasses) freePlace ps (r .count) (λ i b. none-passes (getD ps i freePlace) (d .counts .past i b))
-        ∙ total-same flag-passes ps
+        count-same (λ i. test (boxFrom (r .edges) (r .count) i)) (λ i. passesAt boxPasses (licenceOf (getD ps i freePlace))) (r .count)
+        (λ i b. ap test (d .edges .each i b) ∙ place-passes (licenceOf (getD ps i freePlace)))
+        ∙ count-total (λ p. passesAt boxPasses (licenceOf p)) freePlace ps (r .count)
+        (λ i b. none-passes (licenceOf (getD ps i freePlace)) (d .counts .past i b))
+        ∙ total-same (λ p. flag-passes (licenceOf p)) ps
         ∙ sym (in-force-total (λ x. flag (boxPasses x)) ps)

@@ -7,26 +7,27 @@ use native.Mathlib.Omega.{arith}
 use native.Mathlib.Nat.{not-suc-le-zero}
 use lib.ListN.{length, getD}
 use Rattle.register.specs.declared.Licence.{Licence}
+use Rattle.register.specs.declared.FlatLicence.{FlatLicence}
 use Rattle.register.specs.declared.Register.{Register}
 use Rattle.register.specs.declared.Granted.{Granted}
 use Rattle.register.specs.declared.Cancelled.{Cancelled}
-use Rattle.register.specs.Licences.{wellFormed, freePlace, hasSign, inForce, held, strike, release}
+use Rattle.register.specs.Licences.{wellFormed, licenceOf, freePlace, hasSign, inForce, held, strike, release}
 use Rattle.register.specs.Rules.{grantNumber, cancelNumber}
 use Rattle.register.specs.Contracts.{GrantDone, CancelDone}
 use Rattle.register.proofs.Laws.{is-sign, some-free, rule-accepted, accepted-held}
 use Rattle.lists.proofs.Tests.{by-test}
 use Rattle.register.proofs.Sums.{release-strike, struck-some, struck-gone}
 
-length-release : (s : ℕ) (ps : List Licence) → length (release s ps) ≡ length ps
+length-release : (s : ℕ) (ps : List FlatLicence) → length (release s ps) ≡ length ps
 length-release s [] = refl
-length-release s (l ∷ ps) = ap suc (length-release s ps)
+length-release s (p ∷ ps) = ap suc (length-release s ps)
 
 -- a place that a release made free had the call sign
-released-place : (s : ℕ) (ps : List Licence) (k : ℕ) → k < length ps → (getD ps k freePlace .«call_sign» ≡ 0 → ⊥) →
+released-place : (s : ℕ) (ps : List FlatLicence) (k : ℕ) → k < length ps → (getD ps k freePlace .«call_sign» ≡ 0 → ⊥) →
     getD (release s ps) k freePlace .«call_sign» ≡ 0 → getD ps k freePlace .«call_sign» ≡ s
 released-place s [] k b n e = absurd (not-suc-le-zero b)
-released-place s (l ∷ ps) zero b n e = by-test (hasSign s l) (λ t. is-sign s l t) (λ t. absurd (n (simp t at e)))
-released-place s (l ∷ ps) (suc k) b n e = released-place s ps k (omega arith) n e
+released-place s (p ∷ ps) zero b n e = by-test (hasSign s (licenceOf p)) (λ t. is-sign s (licenceOf p) t) (λ t. absurd (n (simp t at e)))
+released-place s (p ∷ ps) (suc k) b n e = released-place s ps k (omega arith) n e
 
 -- 64 licences are in force, and the cancellation of s is accepted
 module _

@@ -1,7 +1,7 @@
 -- What is decided by sums over the licences: the rules, and what a grant and a cancellation do to the lines. Assumes nothing.
 use Prim.Native.Nat.{ℕ, zero, suc, _+_, _≤_, _<_, zero-le}
 use mathlib.Core.Path.{_≡_, refl, sym, ap, _∙_}
-use mathlib.Core.Bool.{Bool, true, false, cond, _||_}
+use mathlib.Core.Bool.{Bool, true, false, cond}
 use mathlib.Core.List.{List, [], _∷_}
 use native.Mathlib.Omega.{arith}
 use native.Mathlib.Nat.{not-suc-le-zero, zero-add}
@@ -11,11 +11,12 @@ use borrow.Author.Tests.{ltb-true, ltb-false}
 use Rattle.lists.specs.Sums.{flag, total, any}
 use Rattle.lists.proofs.SumLaws.{length-total, any-total}
 use Rattle.register.specs.declared.Licence.{Licence}
-use Rattle.register.specs.Licences.{freePlace, hasSign, inForce, held, strike, release}
+use Rattle.register.specs.declared.FlatLicence.{FlatLicence}
+use Rattle.register.specs.Licences.{licenceOf, flatOf, freePlace, hasSign, inForce, held, strike, release}
 use Rattle.register.specs.Rules.{grantRule, cancelRule}
 use Rattle.register.specs.Contracts.{Placed}
-use Rattle.register.specs.Sums.{SameLicences, signs, OnceEach, atPlace, passesAt}
-use Rattle.register.proofs.Laws.{sign-is, sign-not, is-sign}
+use Rattle.register.specs.Sums.{SameLicences, signs, OnceEach, atPlace}
+use Rattle.register.proofs.Laws.{sign-is, sign-not, is-sign, flat-means}
 use Rattle.lists.proofs.Tests.{by-test}
 
 -- ---- tests and counts are sums
@@ -56,47 +57,42 @@ module _ (xs ys : List Licence) (same : SameLicences xs ys) where
 -- ---- what a grant and a cancellation do to the licences in force
 
 -- the places of a call sign freed: its lines struck
-pub release-strike : (s : ℕ) (ps : List Licence) → inForce (release s ps) ≡ strike s (inForce ps)
+pub release-strike : (s : ℕ) (ps : List FlatLicence) → inForce (release s ps) ≡ strike s (inForce ps)
 release-strike s [] = refl
-release-strike s (l ∷ ps) =
-    by-test (hasSign s l)
-    (λ t. by-test (hasSign 0 l)
-    (λ u. simp (t, u, sign-is 0 freePlace refl) (release-strike s ps))
-    (λ u. simp (t, u, sign-is 0 freePlace refl, t) (release-strike s ps)))
-    (λ t. by-test (hasSign 0 l)
+release-strike s (p ∷ ps) =
+    by-test (hasSign s (licenceOf p))
+    (λ t. by-test (hasSign 0 (licenceOf p))
+    (λ u. simp (t, u, sign-is 0 (licenceOf freePlace) refl) (release-strike s ps))
+    (λ u. simp (t, u, sign-is 0 (licenceOf freePlace) refl, t) (release-strike s ps)))
+    (λ t. by-test (hasSign 0 (licenceOf p))
     (λ u. simp (t, u) (release-strike s ps))
-    (λ u. simp (t, u, t) (ap (λ qs. l ∷ qs) (release-strike s ps))))
+    (λ u. simp (t, u, t) (ap (λ qs. licenceOf p ∷ qs) (release-strike s ps))))
 
 -- a licence placed: one line more
-pub placed-total : {ps qs : List Licence} {l : Licence} →
+pub placed-total : {ps qs : List FlatLicence} {l : Licence} →
     (l .«call_sign» ≡ 0 → ⊥) → Placed ps l qs → SameLicences (inForce qs) (l ∷ inForce ps)
 placed-total {ps} {qs} {l} n p f = rw (p .now) (go ps (p .place) (p .within) (p .wasFree))
   where
-    go : (ps : List Licence) (k : ℕ) → k < length ps → getD ps k freePlace .«call_sign» ≡ 0 →
-        total f (inForce (set ps k l)) ≡ f l + total f (inForce ps)
+    taken : hasSign 0 (licenceOf (flatOf l)) ≡ false
+    taken = ap (hasSign 0) (flat-means l) ∙ sign-not 0 l n
+
+    go : (ps : List FlatLicence) (k : ℕ) → k < length ps → getD ps k freePlace .«call_sign» ≡ 0 →
+        total f (inForce (set ps k (flatOf l))) ≡ f l + total f (inForce ps)
     go [] k b e = absurd (not-suc-le-zero b)
-    go (p ∷ ps) zero b e = simp (sign-is 0 p e, sign-not 0 l n)
+    go (p ∷ ps) zero b e = simp (sign-is 0 (licenceOf p) e, taken) (ap (λ x. f x + total f (inForce ps)) (flat-means l))
     go (p ∷ ps) (suc k) b e =
         let h = go ps k (omega arith) e in
-        by-test (hasSign 0 p) (λ t. simp t h) (λ t. simp t (omega arith))
+        by-test (hasSign 0 (licenceOf p)) (λ t. simp t h) (λ t. simp t (omega arith))
 
 -- ---- the licences in force, place by place
 
-pub in-force-total : (f : Licence → ℕ) (ps : List Licence) → total f (inForce ps) ≡ total (atPlace f) ps
+pub in-force-total : (f : Licence → ℕ) (ps : List FlatLicence) → total f (inForce ps) ≡ total (λ p. atPlace f (licenceOf p)) ps
 unfolding atPlace
 in-force-total f [] = refl
-in-force-total f (l ∷ ps) =
-    by-test (hasSign 0 l)
+in-force-total f (p ∷ ps) =
+    by-test (hasSign 0 (licenceOf p))
     (λ t. simp (t, zero-add) (in-force-total f ps))
-    (λ t. simp t (ap (λ n. f l + n) (in-force-total f ps)))
-
-pub in-force-any : (p : Licence → Bool) (ps : List Licence) → any p (inForce ps) ≡ any (passesAt p) ps
-unfolding passesAt
-in-force-any p [] = refl
-in-force-any p (l ∷ ps) =
-    by-test (hasSign 0 l)
-    (λ t. simp t (in-force-any p ps))
-    (λ t. simp t (ap (λ b. p l || b) (in-force-any p ps)))
+    (λ t. simp t (ap (λ n. f (licenceOf p) + n) (in-force-total f ps)))
 
 -- ---- lines that share no call sign
 

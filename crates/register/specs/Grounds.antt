@@ -11,8 +11,9 @@ use Rattle.register.specs.declared.GeoBox.{GeoBox}
 use Rattle.register.specs.declared.Ground.{Ground}
 use Rattle.register.specs.declared.Ground.the-variants.{Area, Box}
 use Rattle.register.specs.declared.Licence.{Licence}
+use Rattle.register.specs.declared.FlatLicence.{FlatLicence}
 use Rattle.register.specs.declared.Boxes.{Boxes}
-use Rattle.register.specs.Licences.{freePlace, hasSign}
+use Rattle.register.specs.Licences.{licenceOf, freePlace, hasSign}
 use Rattle.register.specs.Sums.{passesAt}
 
 -- "A PEA ground covers every cell of that area": the ground is the area of a number
@@ -55,18 +56,18 @@ boxFrom edges n i = record {
 }
 
 -- one more than the last place with a box in force, 0 where no place has one
-pub record LastBox (places : List Licence) (n : ℕ) : Type 0 where
+pub record LastBox (places : List FlatLicence) (n : ℕ) : Type 0 where
   pub few : n ≤ 64
-  pub past : (i : ℕ) → n ≤ i → passesAt hasBox (getD places i freePlace) ≡ false
-  pub last : 0 < n → passesAt hasBox (getD places (n - 1) freePlace) ≡ true
+  pub past : (i : ℕ) → n ≤ i → passesAt hasBox (licenceOf (getD places i freePlace)) ≡ false
+  pub last : 0 < n → passesAt hasBox (licenceOf (getD places (n - 1) freePlace)) ≡ true
 
 -- the edges of the boxes at the first n places, and 0 past them
-pub record EdgesDone (places : List Licence) (n : ℕ) (edges : List ℤ) : Type 0 where
+pub record EdgesDone (places : List FlatLicence) (n : ℕ) (edges : List ℤ) : Type 0 where
   pub size : length edges ≡ 256
-  pub each : (i : ℕ) → i < n → boxFrom edges n i ≡ placeBox (getD places i freePlace)
+  pub each : (i : ℕ) → i < n → boxFrom edges n i ≡ placeBox (licenceOf (getD places i freePlace))
   pub rest : (k : ℕ) → 4 * n ≤ k → getD edges k (pos 0) ≡ pos 0
 
 -- what `boxes` hands out of the places
-pub record BoxesDone (places : List Licence) (r : Boxes) : Type 0 where
+pub record BoxesDone (places : List FlatLicence) (r : Boxes) : Type 0 where
   pub counts : LastBox places (r .count)
   pub edges : EdgesDone places (r .count) (r .edges)

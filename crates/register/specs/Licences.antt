@@ -3,6 +3,7 @@ use Prim.Native.Nat.{ℕ}
 use mathlib.Core.Bool.{Bool, cond, not, _&&_}
 use mathlib.Core.List.{List, [], _∷_}
 use lib.Dec.{leb, eqb}
+use lib.IntN.{pos}
 use lib.Signed.{ltZ}
 use Rattle.lists.specs.Sums.{any}
 use Rattle.units.specs.Coordinates.{isLatitude, isLongitude}
@@ -10,6 +11,7 @@ use Rattle.register.specs.declared.GeoBox.{GeoBox}
 use Rattle.register.specs.declared.Ground.{Ground}
 use Rattle.register.specs.declared.Ground.the-variants.{Area, Box}
 use Rattle.register.specs.declared.Licence.{Licence}
+use Rattle.register.specs.declared.FlatLicence.{FlatLicence}
 
 -- "The register": a box with south < north and west < east, edges in the ranges above
 unfoldable pub boxFormed : GeoBox → Bool
@@ -26,18 +28,49 @@ groundFormed (Box b) = boxFormed b
 unfoldable pub wellFormed : Licence → Bool
 wellFormed l = not (eqb (l .«call_sign») 0) && groundFormed (l .ground)
 
+-- ---- how a licence is laid out at a place of the register
+
+-- the ground of a place by its kind: 0 is an area, 1 a box, and any other kind is ill formed and covers nothing, as area 0 does
+unfoldable pub groundOf : FlatLicence → Ground
+groundOf p =
+    cond (eqb (p .kind) 0) (Area (p .area))
+    (cond (eqb (p .kind) 1) (Box (record { south = p .south; north = p .north; west = p .west; east = p .east })) (Area 0))
+
+-- the licence that stands at a place
+abbrev pub licenceOf : FlatLicence → Licence
+licenceOf p = record { «call_sign» = p .«call_sign»; ground = groundOf p }
+
+-- the place by its call sign and its ground
+abbrev pub flatOn : ℕ → Ground → FlatLicence
+flatOn s (Area n) =
+    record { «call_sign» = s; area = n; kind = 0; unused = 0; south = pos 0; north = pos 0; west = pos 0; east = pos 0 }
+flatOn s (Box b) = record {
+  «call_sign» = s;
+  area = 0;
+  kind = 1;
+  unused = 0;
+  south = b .south;
+  north = b .north;
+  west = b .west;
+  east = b .east;
+}
+
+-- the place that a licence takes: what is not of its ground is 0
+unfoldable pub flatOf : Licence → FlatLicence
+flatOf l = flatOn (l .«call_sign») (l .ground)
+
 -- "The register": what stands at a free place, call sign 0
-abbrev pub freePlace : Licence
-freePlace = record { «call_sign» = 0; ground = Area 0 }
+abbrev pub freePlace : FlatLicence
+freePlace = record { «call_sign» = 0; area = 0; kind = 0; unused = 0; south = pos 0; north = pos 0; west = pos 0; east = pos 0 }
 
 -- "The list of demand 3": the line has the call sign
 unfoldable pub hasSign : ℕ → Licence → Bool
 hasSign s l = eqb (l .«call_sign») s
 
 -- "The register": the licences in force are the places whose call sign is not 0
-abbrev pub inForce : List Licence → List Licence
+abbrev pub inForce : List FlatLicence → List Licence
 inForce [] = []
-inForce (l ∷ places) = cond (hasSign 0 l) (inForce places) (l ∷ inForce places)
+inForce (p ∷ places) = cond (hasSign 0 (licenceOf p)) (inForce places) (licenceOf p ∷ inForce places)
 
 -- "The list of demand 3": some line has the call sign
 abbrev pub held : ℕ → List Licence → Bool
@@ -49,6 +82,6 @@ strike s [] = []
 strike s (l ∷ lines) = cond (hasSign s l) (strike s lines) (l ∷ strike s lines)
 
 -- "The register": the places, with those of the call sign free
-abbrev pub release : ℕ → List Licence → List Licence
+abbrev pub release : ℕ → List FlatLicence → List FlatLicence
 release s [] = []
-release s (l ∷ places) = cond (hasSign s l) freePlace l ∷ release s places
+release s (p ∷ places) = cond (hasSign s (licenceOf p)) freePlace p ∷ release s places

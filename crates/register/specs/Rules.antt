@@ -2,7 +2,7 @@
 use Prim.Native.Nat.{ℕ}
 use mathlib.Core.Bool.{cond, not}
 use mathlib.Core.List.{List}
-use lib.Dec.{leb}
+use lib.Dec.{leb, eqb}
 use lib.ListN.{length}
 use Rattle.register.specs.declared.Licence.{Licence}
 use Rattle.register.specs.declared.GrantAnswer.{GrantAnswer}
@@ -22,6 +22,13 @@ grantNumber Grant.Full = 10
 abbrev pub cancelNumber : CancelAnswer → ℕ
 cancelNumber Cancel.Accepted = 0
 cancelNumber Cancel.NotInForce = 11
+
+-- the answers by their numbers
+abbrev pub grantAnswer : ℕ → GrantAnswer
+grantAnswer n = cond (eqb n 0) Grant.Accepted (cond (eqb n 6) Grant.IllFormed (cond (eqb n 9) Grant.InForce Grant.Full))
+
+abbrev pub cancelAnswer : ℕ → CancelAnswer
+cancelAnswer n = cond (eqb n 0) Cancel.Accepted Cancel.NotInForce
 
 -- "The register": its limit
 abbrev pub limit : ℕ

@@ -1,13 +1,14 @@
 // Document 01, "The register": the licences in force, and what a grant and a cancellation do to them. naming and boxes hand out
 // what the crates above count people by.
 ghost use mathlib.Core.Path.{_≡_};
+ghost use mathlib.Core.Bool.{cond, not};
+ghost use lib.Dec.{leb, eqb};
 ghost use Prim.Native.Nat.{_≤_};
-ghost use lib.ListN.{length};
 ghost use Rattle.lists.specs.Sums.{total, flag};
-ghost use Rattle.register.specs.Licences.{boxFormed, groundFormed, wellFormed, inForce, release};
-ghost use Rattle.register.specs.Rules.{grantNumber, cancelNumber, limit};
+ghost use Rattle.register.specs.Licences.{boxFormed, groundFormed, wellFormed, groundOf, licenceOf, flatOf, inForce};
+ghost use Rattle.register.specs.Rules.{grantNumber, cancelNumber, grantAnswer, cancelAnswer, limit};
 ghost use Rattle.register.specs.Sums.{atPlace, passesAt};
-ghost use Rattle.register.specs.Contracts.{EmptyDone, GrantDone, CancelDone, FirstAt};
+ghost use Rattle.register.specs.Contracts.{EmptyDone, GrantDone, CancelDone, GrantStep, CancelStep};
 ghost use Rattle.register.specs.Grounds.{names, hasBox, placeBox, LastBox, EdgesDone, BoxesDone};
 
 // A box of latitudes and longitudes, in hundredths of an arc second. Degrees south and west are negative.
@@ -30,9 +31,24 @@ pub struct Licence {
     pub ground: Ground,
 }
 
+// A licence laid out in plain numbers, as it stands at a place of the register and as callers in C hand it over. Kind 0 is an area and
+// kind 1 a box; any other kind is an ill-formed ground, which covers nothing. There is no padding.
+#[repr(C)]
+pub struct FlatLicence {
+    pub call_sign: u32,
+    pub area: u16,
+    pub kind: u8,
+    pub unused: u8,
+    pub south: i32,
+    pub north: i32,
+    pub west: i32,
+    pub east: i32,
+}
+
 // A register has a place for each licence in force. A place with call sign 0 is free.
+#[repr(C)]
 pub struct Register {
-    places: [Licence; Register::LIMIT],
+    places: [FlatLicence; Register::LIMIT],
 }
 
 // What a grant answers: accepted, or refused by 6, 9 or 10.
@@ -47,6 +63,13 @@ pub enum GrantAnswer {
 pub enum CancelAnswer {
     Accepted,
     NotInForce,
+}
+
+// What a grant or a cancellation hands back in plain numbers: the next register, and document 01's number of the refusal, 0 for none.
+#[repr(C)]
+pub struct Step {
+    pub next: Register,
+    pub refusal: u32,
 }
 
 // A grant hands back the next register and its answer.
@@ -80,6 +103,18 @@ impl GrantAnswer {
             GrantAnswer::Full => 10,
         }
     }
+
+    // The answer by its number.
+    fn of(number: u32) -> Self
+        ensures { λ r. ⌜ r ≡ grantAnswer number ⌝ }
+    {
+        match number {
+            0 => GrantAnswer::Accepted,
+            6 => GrantAnswer::IllFormed,
+            9 => GrantAnswer::InForce,
+            _ => GrantAnswer::Full,
+        }
+    }
 }
 
 impl CancelAnswer {
@@ -92,6 +127,75 @@ impl CancelAnswer {
             CancelAnswer::NotInForce => 11,
         }
     }
+
+    // The answer by its number.
+    fn of(number: u32) -> Self
+        ensures { λ r. ⌜ r ≡ cancelAnswer number ⌝ }
+    {
+        match number {
+            0 => CancelAnswer::Accepted,
+            _ => CancelAnswer::NotInForce,
+        }
+    }
+}
+
+impl FlatLicence {
+    // The place that a licence takes.
+    pub fn of(l: Licence) -> Self
+        ensures { λ r. ⌜ r ≡ flatOf l ⌝ }
+    {
+        let g = l.ground;
+        match g {
+            Ground::Area(number) => FlatLicence {
+                call_sign: l.call_sign,
+                area: number,
+                kind: 0,
+                unused: 0,
+                south: 0,
+                north: 0,
+                west: 0,
+                east: 0,
+            },
+            Ground::Box(b) => FlatLicence {
+                call_sign: l.call_sign,
+                area: 0,
+                kind: 1,
+                unused: 0,
+                south: b.south,
+                north: b.north,
+                west: b.west,
+                east: b.east,
+            },
+        }
+    }
+
+    // The licence that stands at the place.
+    pub fn licence(self) -> Licence
+        ensures { λ r. ⌜ r ≡ licenceOf self ⌝ }
+    {
+        Licence {
+            call_sign: self.call_sign,
+            ground: self.ground(),
+        }
+    }
+
+    // The ground of the licence that stands at the place.
+    fn ground(self) -> Ground
+        ensures { λ r. ⌜ r ≡ groundOf self ⌝ }
+    {
+        if self.kind == 0 {
+            return Ground::Area(self.area);
+        }
+        if self.kind == 1 {
+            return Ground::Box(GeoBox {
+                south: self.south,
+                north: self.north,
+                west: self.west,
+                east: self.east,
+            });
+        }
+        Ground::Area(0)
+    }
 }
 
 impl Register {
@@ -99,9 +203,15 @@ impl Register {
     pub const LIMIT: usize = 64;
 
     // What stands at a free place.
-    const FREE: Licence = Licence {
+    const FREE: FlatLicence = FlatLicence {
         call_sign: 0,
-        ground: Ground::Area(0),
+        area: 0,
+        kind: 0,
+        unused: 0,
+        south: 0,
+        north: 0,
+        west: 0,
+        east: 0,
     };
 
     // The register with no licence in force.
@@ -113,56 +223,76 @@ impl Register {
         }
     }
 
-    // Refuses by 6, 9 or 10, in this order, and else puts the licence at the first free place.
+    // Refuses by 6, 9 or 10, in this order, and else puts the licence at a free place.
     pub fn grant(mut self, l: Licence) -> Granted
         ensures { λ r. ⌜ GrantDone self l r ⌝ }
     {
-        if !well_formed(l) {
-            return Granted {
-                next: self,
-                answer: GrantAnswer::IllFormed,
-            };
-        }
-        if self.place_of(l.call_sign) < Self::LIMIT {
-            return Granted {
-                next: self,
-                answer: GrantAnswer::InForce,
-            };
-        }
-        let free = self.place_of(0);
-        if Self::LIMIT <= free {
-            return Granted {
-                next: self,
-                answer: GrantAnswer::Full,
-            };
-        }
-        self.places[free] = l;
+        let step = self.grant_step(l);
+        self = step.next;
         Granted {
             next: self,
-            answer: GrantAnswer::Accepted,
+            answer: GrantAnswer::of(step.refusal),
         }
     }
 
-    // Refuses by 11 what is not in force, as call sign 0 never is, and else frees the place.
+    // Refuses by 11 what is not in force, as call sign 0 never is, and else frees every place of the call sign.
     pub fn cancel(mut self, call_sign: u32) -> Cancelled
         ensures { λ r. ⌜ CancelDone self «call_sign» r ⌝ }
     {
-        if call_sign == 0 {
-            return Cancelled {
-                next: self,
-                answer: CancelAnswer::NotInForce,
-            };
-        }
-        if Self::LIMIT <= self.place_of(call_sign) {
-            return Cancelled {
-                next: self,
-                answer: CancelAnswer::NotInForce,
-            };
-        }
-        self = self.freed(call_sign);
+        let step = self.cancel_step(call_sign);
+        self = step.next;
         Cancelled {
             next: self,
-            answer: CancelAnswer::Accepted,
+            answer: CancelAnswer::of(step.refusal),
+        }
+    }
+
+    // A grant with its refusal as a number. The search goes from the last place back, so that the free place found last is the first.
+    // There is one way out, so that the register is copied once, and places are counted in u32, so that four are tested at a time.
+    pub fn grant_step(mut self, l: Licence) -> Step
+        ensures { λ r. ⌜ GrantStep self l r ⌝ }
+    {
+        let mut held = false;
+        let mut free = Self::LIMIT as u32;
+        let mut i = Self::LIMIT as u32;
+        while 0 < i {
+            let p = self.places[(i - 1) as usize];
+            if p.call_sign == l.call_sign {
+                held = true;
+            }
+            if p.call_sign == 0 {
+                free = i - 1;
+            }
+            i -= 1;
+        }
+        let refusal = grant_refusal(well_formed(l), held, free);
+        if refusal == 0 {
+            self.places[free as usize] = FlatLicence::of(l);
+        }
+        Step {
+            next: self,
+            refusal,
+        }
+    }
+
+    // A cancellation with its refusal as a number.
+    pub fn cancel_step(mut self, call_sign: u32) -> Step
+        ensures { λ r. ⌜ CancelStep self «call_sign» r ⌝ }
+    {
+        let places = places_for(call_sign);
+        let mut found = false;
+        let mut i = 0;
+        while i < places {
+            let p = self.places[i];
+            if p.call_sign == call_sign {
+                self.places[i] = Self::FREE;
+                found = true;
+            }
+            i += 1;
+        }
+        Step {
+            next: self,
+            refusal: cancel_refusal(found),
         }
     }
 
@@ -173,8 +303,8 @@ impl Register {
         let mut count: u32 = 0;
         let mut k = 0;
         while k < Self::LIMIT {
-            let l = self.places[k];
-            count += names_area(l, number);
+            let p = self.places[k];
+            count += names_area(p.licence(), number);
             k += 1;
         }
         count
@@ -195,8 +325,8 @@ impl Register {
     {
         let mut count = Self::LIMIT;
         while 0 < count {
-            let l = self.places[count - 1];
-            if box_in_force(l) {
+            let p = self.places[count - 1];
+            if box_in_force(p.licence()) {
                 return count;
             }
             count -= 1;
@@ -212,8 +342,8 @@ impl Register {
         let mut edges = [0i32; 256];
         let mut i = 0;
         while i < count {
-            let l = self.places[i];
-            let b = place_box(l);
+            let p = self.places[i];
+            let b = place_box(p.licence());
             let south = b.south;
             let north = b.north;
             let west = b.west;
@@ -226,36 +356,36 @@ impl Register {
         }
         edges
     }
+}
 
-    // The first place that has the call sign, or LIMIT where none has.
-    fn place_of(self, call_sign: u32) -> usize
-        ensures { λ r. ⌜ (length (self .places) ≡ limit) × FirstAt (self .places) «call_sign» r ⌝ }
-    {
-        let mut place = 0;
-        while place < Self::LIMIT {
-            let l = self.places[place];
-            if l.call_sign == call_sign {
-                return place;
-            }
-            place += 1;
-        }
-        place
+// The refusal of a grant: 6, 9, 10, in this order. Free is the place to take, LIMIT or more where none is free.
+fn grant_refusal(formed: bool, held: bool, free: u32) -> u32
+    ensures { λ r. ⌜ r ≡ cond (not formed) 6 (cond held 9 (cond (leb limit free) 10 0)) ⌝ }
+{
+    if !formed {
+        return 6;
     }
+    if held {
+        return 9;
+    }
+    if Register::LIMIT as u32 <= free {
+        return 10;
+    }
+    0
+}
 
-    // The register with every place of the call sign freed.
-    fn freed(mut self, call_sign: u32) -> Self
-        ensures { λ r. ⌜ r .places ≡ release «call_sign» (self .places) ⌝ }
-    {
-        let mut i = 0;
-        while i < Self::LIMIT {
-            let l = self.places[i];
-            if l.call_sign == call_sign {
-                self.places[i] = Self::FREE;
-            }
-            i += 1;
-        }
-        self
-    }
+// The refusal of a cancellation.
+fn cancel_refusal(found: bool) -> u32
+    ensures { λ r. ⌜ r ≡ cond (not found) 11 0 ⌝ }
+{
+    if found { 0 } else { 11 }
+}
+
+// How many places may have a call sign in force: none has call sign 0.
+fn places_for(call_sign: u32) -> usize
+    ensures { λ r. ⌜ r ≡ cond (eqb «call_sign» 0) 0 limit ⌝ }
+{
+    if call_sign == 0 { 0 } else { Register::LIMIT }
 }
 
 // Whether a box is well formed.

@@ -1,10 +1,11 @@
 -- `register::Register::edges` meets its contract: the four edges of a box a turn. Assumes nothing.
 use Prim.Native.Nat.{_-_}
-use mathlib.Core.Path.{_≡_, _∙_}
+use mathlib.Core.Path.{_≡_, ap, _∙_}
 use mir.Syntax.{w32}
 use mir.Val.{toZ, ofZ}
 use borrow.Author.Needs.{needs}
 use Rattle.register.specs.declared.GeoBox.{GeoBox}
+use Rattle.register.specs.Grounds.{placeBox}
 use Rattle.register.proofs.GroundLaws.{Filled, fill-starts, fill-turns, fill-ends}
 use Rattle.register.proofs.Register.edges.Statement.{statement}
 use Rattle.register.proofs.Register.edges.Tie as tie
@@ -18,11 +19,14 @@ abbrev μ-loop : tie.MeasureT-loop
 loop-holds : tie.Need-loop-holds Inv-loop μ-loop
 loop-holds c = fill-starts (c .args .t1 .places) (c .args .count)
 
-mul-l : tie.Need-mul-l Inv-loop μ-loop
-mul-l c = search needs
+mul-p : tie.Need-mul-p Inv-loop μ-loop
+mul-p c = search needs
 
-element-copy-out-l : tie.Need-element-copy-out-l Inv-loop μ-loop
-element-copy-out-l c = search needs
+element-copy-out-p : tie.Need-element-copy-out-p Inv-loop μ-loop
+element-copy-out-p c = search needs
+
+licence-requires : tie.Need-licence-requires Inv-loop μ-loop
+licence-requires c κs = search needs
 
 place-box-requires : tie.Need-place-box-requires Inv-loop μ-loop
 place-box-requires c κs = search needs
@@ -75,7 +79,7 @@ loop-less c = search needs
 loop-again : tie.Need-loop-again Inv-loop μ-loop
 loop-again c =
     let c4 = c .before .before .before .before in
-    let c7 = c4 .before .before .before in
+    let c8 = c4 .before .before .before .before in
     let b = c4 .place-box .result in
     let south : toZ w32 (ofZ w32 (b .south)) ≡ b .south = search needs in
     let north : toZ w32 (ofZ w32 (b .north)) ≡ b .north = search needs in
@@ -88,7 +92,8 @@ loop-again c =
       east = toZ w32 (ofZ w32 (b .east));
     } in
     let same : read ≡ b = λ i. record { south = south i; north = north i; west = west i; east = east i } in
-    fill-turns (c7 .loop .inv) {b = read} (c7 .before .pre) (c4 .before .before .loop-test .taken) (same ∙ c4 .place-box .ensures)
+    fill-turns (c8 .loop .inv) {b = read} (c8 .before .pre) (c4 .before .before .before .loop-test .taken)
+    (same ∙ c4 .place-box .ensures ∙ ap placeBox (c4 .before .licence .ensures))
 
 returns : tie.Need-returns Inv-loop μ-loop
 returns c = fill-ends (c .before .loop .inv) (c .loop-test .left)
@@ -100,8 +105,9 @@ edges-spec =
     Inv-loop
     μ-loop
     loop-holds
-    mul-l
-    element-copy-out-l
+    mul-p
+    element-copy-out-p
+    licence-requires
     place-box-requires
     mul-edges
     array-set-from-edges
