@@ -1,5 +1,5 @@
 // Plays a file of cases: maps that are checked and looked up in, and calls on one register, in up to two blocks of 65,536 bytes.
-// host/cases.py writes the cases and, by an implementation of its own, the lines that must come out.
+// `host/run cases --write` writes the cases and, by an implementation of its own, the lines that must come out.
 use coverage::BlocksAnswer;
 use coverage::CoverageAnswer;
 use footprint::FootprintAnswer;

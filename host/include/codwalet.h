@@ -1,0 +1,177 @@
+/*
+ * Codwalet's C interface: the functions of crates/abi, in the archive target/staticlib/libabi.a (x86-64; it needs no other library).
+ *
+ * Every function takes any input and returns: no map, register, licence, number, draw or buffer makes one fault or hang.
+ * Nothing is allocated and nothing is kept. Structs are passed and returned by value and belong to the caller. Of a map, a mask
+ * and a table the caller keeps ownership; a function reads or writes them only until it returns. A pointer must be valid for the
+ * length given with it, and a mask or table must not overlap the map; NULL with length 0 is an empty buffer.
+ * A footprint needs some 128 KiB of stack, every other call less than 32 KiB.
+ *
+ * The structs have no padding, and each field has a value in every answer: 0 where the answer has nothing to say.
+ * Coordinates are in hundredths of an arc second; degrees south and west are negative.
+ */
+#ifndef CODWALET_H
+#define CODWALET_H
+
+#include <stddef.h>
+#include <stdint.h>
+
+#ifdef __cplusplus
+extern "C" {
+#endif
+
+/* Refusals, by the numbers of document 01; 0 is no refusal. */
+enum {
+    CODWALET_ACCEPTED = 0,
+    CODWALET_MAP_ENDS = 1,        /* the map ends before or inside a field that is due */
+    CODWALET_MAP_LIMIT = 2,       /* a field of the map outside its limits, or a bit past the last column */
+    CODWALET_MAP_EXTRA = 3,       /* bytes after the map's last area */
+    CODWALET_MAP_ORDER = 4,       /* an area's number is not above the one before */
+    CODWALET_MAP_POPULATION = 5,  /* an area's population is 0 or above 40,000,000 */
+    CODWALET_ILL_FORMED = 6,      /* grant: call sign 0, or an ill-formed ground */
+    CODWALET_MASK_SHORT = 7,      /* footprint: the mask is shorter than rows x columns */
+    CODWALET_TABLE_SHORT = 8,     /* footprint: the table is too short; `needed` says how many entries it takes */
+    CODWALET_IN_FORCE = 9,        /* grant: the call sign is in force already */
+    CODWALET_FULL = 10,           /* grant: 64 licences are in force */
+    CODWALET_NOT_IN_FORCE = 11,   /* cancel: the call sign is not in force */
+    CODWALET_TOO_MANY = 12,       /* proposal, footprint: more than 20 partial areas */
+    CODWALET_NOT_ONE_PART = 13    /* footprint: the proposal isn't of kind 3 */
+};
+
+/* The ground of a licence. Any other kind is an ill-formed ground, which covers nothing. */
+enum {
+    CODWALET_GROUND_AREA = 0,     /* the area of a PEA number; the edges are not read */
+    CODWALET_GROUND_BOX = 1       /* a box; the number is not read */
+};
+
+/* The kind of a proposal. */
+enum {
+    CODWALET_EXACT = 1,
+    CODWALET_ROUNDED_UP = 2,
+    CODWALET_ONE_PART = 3
+};
+
+/* What an area gets. */
+enum {
+    CODWALET_GETS_NOTHING = 0,
+    CODWALET_GETS_WHOLE = 1,
+    CODWALET_GETS_ROUNDED_UP = 2,
+    CODWALET_GETS_SHARE = 3
+};
+
+#define CODWALET_LIMIT 64 /* places of a register */
+#define CODWALET_AREAS 32 /* areas of a map, at most */
+
+/* A licence, 24 bytes. `unused` is not read. */
+typedef struct {
+    uint32_t call_sign;           /* not 0 */
+    uint16_t area;                /* 1 to 416 */
+    uint8_t kind;                 /* CODWALET_GROUND_.. */
+    uint8_t unused;
+    int32_t south;                /* south < north, both within +-32,400,000 */
+    int32_t north;
+    int32_t west;                 /* west < east, both within +-64,800,000 */
+    int32_t east;
+} codwalet_licence;
+
+/* A register, 1,536 bytes. A place with call sign 0 is free, and nothing else of it counts. */
+typedef struct {
+    codwalet_licence places[CODWALET_LIMIT];
+} codwalet_register;
+
+/* What a grant or a cancellation hands back, 1,540 bytes. Refused, `next` is the register that was passed, byte for byte. */
+typedef struct {
+    codwalet_register next;
+    uint32_t refusal;             /* grant: 0, 6, 9, 10; cancel: 0, 11 */
+} codwalet_step;
+
+/* An area of a map, 48 bytes: its head, its population, and where its rows stand in the map. All 0 if the map lacks the number. */
+typedef struct {
+    uint32_t refusal;             /* 0 to 5 */
+    uint32_t weight;
+    uint64_t rows;
+    uint64_t columns;
+    uint64_t population;
+    uint64_t offset;              /* of the first row's bit map, from the start of the map */
+    uint64_t length;              /* to the end of the last cell */
+} codwalet_area;
+
+/* The people that licences in force cover in an area, 16 bytes: a cell under two licences counts twice. */
+typedef struct {
+    uint64_t people;
+    uint32_t refusal;             /* 0 to 5 */
+    uint32_t unused;
+} codwalet_covered;
+
+/* The blocks of an area, 32 bytes. */
+typedef struct {
+    uint64_t whole;               /* whole blocks of 100 MHz */
+    uint64_t value;               /* v, in weighted MHz-pops: 0 where the area is not partial */
+    uint64_t size;                /* M, likewise */
+    uint32_t refusal;             /* 0 to 5 */
+    uint32_t unused;
+} codwalet_held;
+
+/* What a proposal gives an area, 24 bytes. */
+typedef struct {
+    uint32_t number;
+    uint32_t gets;                /* CODWALET_GETS_.. */
+    uint64_t blocks;              /* whole blocks that the area has without the proposal */
+    uint64_t share;               /* in weighted MHz-pops, where it gets a share */
+} codwalet_given;
+
+/* A proposal, 808 bytes. */
+typedef struct {
+    uint32_t refusal;             /* 0 to 5, 12 */
+    uint32_t kind;                /* 1 to 3 */
+    uint64_t tied;                /* tied areas, 0 where the kind is 1 */
+    uint64_t count;               /* areas of the map */
+    uint64_t target;              /* T, in weighted MHz-pops */
+    uint64_t white_space;         /* in weighted MHz-pops */
+    codwalet_given areas[CODWALET_AREAS]; /* the first `count`, ascending */
+} codwalet_proposal;
+
+/* What a footprint answers, 16 bytes. */
+typedef struct {
+    uint32_t refusal;             /* 0 to 5, 12, 13, 7, 8 */
+    uint32_t area;                /* the partial area's number */
+    uint64_t needed;              /* at refusal 8, the entries that the table must have */
+} codwalet_outline;
+
+/* The register with no licence in force. */
+codwalet_register codwalet_empty(void);
+
+/* The register with a licence granted. Refused by 6, 9 or 10, in this order. */
+codwalet_step codwalet_grant(codwalet_register current, codwalet_licence licence);
+
+/* The register with a licence cancelled. Refused by 11. */
+codwalet_step codwalet_cancel(codwalet_register current, uint32_t call_sign);
+
+/* 0 if the map is accepted, else the refusal, 1 to 5. */
+uint32_t codwalet_check_map(const uint8_t *map, size_t map_length);
+
+/* The area with a number. */
+codwalet_area codwalet_look_up(const uint8_t *map, size_t map_length, uint16_t number);
+
+/* The people covered in the area with a number: 0 if the map lacks it. */
+codwalet_covered codwalet_coverage(const uint8_t *map, size_t map_length, codwalet_register current, uint16_t number);
+
+/* The blocks of the area with a number: zeros if the map lacks it. */
+codwalet_held codwalet_blocks(const uint8_t *map, size_t map_length, codwalet_register current, uint16_t number);
+
+/* The proposal; `draw` decides among tied areas. */
+codwalet_proposal codwalet_propose(const uint8_t *map, size_t map_length, codwalet_register current, uint32_t draw);
+
+/*
+ * The footprint of the partial area of the proposal with this draw. The first rows x columns bytes of the mask become 1 in the
+ * footprint and else 0, by row and then column; bytes past them stay. The table is working store: entries that are used may hold
+ * anything afterwards, the others stay. Refused, mask and table stay as they are, but at 8 the area's mask bytes become 0.
+ */
+codwalet_outline codwalet_footprint(const uint8_t *map, size_t map_length, codwalet_register current, uint32_t draw,
+                                    uint8_t *mask, size_t mask_length, uint16_t *table, size_t table_length);
+
+#ifdef __cplusplus
+}
+#endif
+
+#endif

@@ -1,0 +1,117 @@
+//! Answers as a table: the plan's line, the call and what came of it. A proposal and a footprint have more lines below.
+
+use super::{counted, grouped, size_words};
+use crate::engine::{Blocks, Gets, Given, Kind, Part, Proposal, Weighted};
+use crate::picture::{Drawing, terminal};
+use crate::plan::run::{Answer, Outcome};
+use crate::plan::{Call, Plan};
+
+/// Blanks before the lines below an answer: the width of the first column.
+const INDENT: &str = "      ";
+
+/// The width of the calls' column.
+pub fn width_of(plan: &Plan) -> usize {
+    plan.steps.iter().map(|step| step.words.chars().count()).max().unwrap_or(0).max("call".len())
+}
+
+/// The table's first line.
+pub fn table_head(width: usize) -> String {
+    format!("line  {:width$}  answer", "call")
+}
+
+/// The lines of an answer.
+pub fn table_lines(answer: &Answer, width: usize) -> Vec<String> {
+    let step = answer.step;
+    let first = first_line(answer);
+    let mut lines = vec![format!("{:>4}  {:width$}  {first}", step.line, step.words)];
+    let below = match &answer.outcome {
+        Outcome::Proposal(proposal) => proposal_lines(proposal),
+        Outcome::Footprint(drawing) => terminal(drawing),
+        _ => Vec::new(),
+    };
+    if !below.is_empty() {
+        let indented = |line: &String| format!("{INDENT}{line}").trim_end().to_string();
+        lines.push(String::new());
+        lines.extend(below.iter().map(indented));
+        lines.push(String::new());
+    }
+    lines
+}
+
+fn first_line(answer: &Answer) -> String {
+    match &answer.outcome {
+        Outcome::Map(map) => size_words(map),
+        Outcome::InForce(count) => {
+            let granted = matches!(answer.step.call, Call::Grant(_));
+            let done = if granted { "granted" } else { "cancelled" };
+            format!("{done}; {} in force", counted(*count as u64, "licence", "licences"))
+        }
+        Outcome::Coverage { people, in_map } => format!("{} people{}", grouped(people.0), lacking(*in_map)),
+        Outcome::Blocks { blocks, in_map } => format!("{}{}", blocks_words(blocks), lacking(*in_map)),
+        Outcome::Proposal(proposal) => kind_words(proposal),
+        Outcome::Footprint(drawing) => footprint_words(drawing, &answer.step.call),
+        Outcome::Refused(refusal) => format!("refused, {}: {refusal}", refusal.number()),
+    }
+}
+
+fn lacking(in_map: bool) -> &'static str {
+    if in_map { "" } else { " (the map lacks the area)" }
+}
+
+fn blocks_words(blocks: &Blocks) -> String {
+    let whole = counted(blocks.whole, "whole block", "whole blocks");
+    match blocks.part {
+        None => format!("{whole}, nothing partial"),
+        Some(Part { value, size }) => format!("{whole}, and {} of {} of another", grouped(value.0), amount(size)),
+    }
+}
+
+fn amount(weighted: Weighted) -> String {
+    format!("{} weighted MHz-pops", grouped(weighted.0))
+}
+
+fn kind_words(proposal: &Proposal) -> String {
+    let area = proposal.partial().map_or(String::new(), |given| format!("area {}", given.number));
+    match proposal.kind {
+        Kind::Exact => "exact: whole areas add to T".to_string(),
+        Kind::RoundedUp => format!("rounded up: {area} has at least 90% of a block"),
+        Kind::OnePart => format!("one part: {area} gets a share"),
+    }
+}
+
+fn proposal_lines(proposal: &Proposal) -> Vec<String> {
+    let (target, white_space) = (grouped(proposal.target.0), grouped(proposal.white_space.0));
+    let width = target.len().max(white_space.len());
+    let tied = if proposal.tied == 1 { "area" } else { "areas" };
+    let mut lines = vec![
+        format!("T            {target:>width$} weighted MHz-pops"),
+        format!("white space  {white_space:>width$} weighted MHz-pops"),
+        format!("tied         {:>width$} {tied}", proposal.tied),
+        String::new(),
+        "area  whole blocks  gets".to_string(),
+    ];
+    lines.extend(proposal.areas.iter().map(given_line));
+    lines
+}
+
+fn given_line(given: &Given) -> String {
+    let gets = match given.gets {
+        Gets::Nothing => "nothing".to_string(),
+        Gets::Whole => "a whole block".to_string(),
+        Gets::RoundedUp => "a whole block, rounded up".to_string(),
+        Gets::Share(share) => format!("a share of {}", amount(share)),
+    };
+    format!("{:>4}  {:>12}  {gets}", given.number, grouped(given.blocks))
+}
+
+fn footprint_words(drawing: &Drawing, call: &Call) -> String {
+    let footprint = drawing.count(|place| drawing.footprint[place]);
+    let cells = drawing.count(|_| true).cells;
+    let written = match call {
+        Call::Footprint(_, Some(file)) => format!("; drawn in {}", file.display()),
+        _ => String::new(),
+    };
+    let (cells, of_cells) = (grouped(footprint.cells as u64), grouped(cells as u64));
+    let (carries, share) = (grouped(drawing.carries().0), grouped(drawing.share.0));
+    format!("area {}: {cells} of {of_cells} cells carry {carries} for a share of {share}{written}", drawing.area)
+}

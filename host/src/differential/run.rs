@@ -1,0 +1,165 @@
+//! Runs cases of every kind for a time, counts them, and writes down those that differ.
+
+use std::io;
+use std::path::Path;
+use std::time::{Duration, Instant, SystemTime, UNIX_EPOCH};
+
+use super::case::Case;
+use super::compare::{self, Outcome};
+use super::engine::Engine;
+use super::kinds::{KINDS, Kind};
+use super::seen::Seen;
+use super::shrink::shrink;
+use crate::random::Random;
+
+/// The seed of the set that is the same each time.
+const FIXED_SEED: u64 = 39;
+const FIXED_TIME: Duration = Duration::from_secs(36);
+const FRESH_TIME: Duration = Duration::from_secs(12);
+/// A soak takes a new seed this often.
+const ROUND: Duration = Duration::from_secs(60);
+/// After so many differences no more are looked for.
+pub(super) const MOST_DIFFERENCES: usize = 10;
+/// Where cases that differ are written.
+const FOLDER: &str = "target/differ";
+
+/// Cases and calls compared, and cases that differed, of a kind.
+#[derive(Clone, Copy, Default)]
+struct Count {
+    cases: usize,
+    calls: usize,
+    differed: usize,
+}
+
+impl Count {
+    fn add(&mut self, other: &Count) {
+        self.cases += other.cases;
+        self.calls += other.calls;
+        self.differed += other.differed;
+    }
+}
+
+/// A test of an engine, with what was counted so far.
+pub(super) struct Test<'a, E> {
+    engine: &'a E,
+    folder: &'a Path,
+    counts: [Count; KINDS.len()],
+    seen: Seen,
+}
+
+/// The seed of a case: any case can be made again from the run's seed, its kind and its number.
+fn case_seed(seed: u64, kind: usize, number: u64) -> u64 {
+    Random::new(seed).word().wrapping_add((kind as u64) << 40).wrapping_add(number)
+}
+
+impl<'a, E: Engine> Test<'a, E> {
+    /// A test that writes down cases in a folder.
+    pub(super) fn new(engine: &'a E, folder: &'a Path) -> Test<'a, E> {
+        Test { engine, folder, counts: [Count::default(); KINDS.len()], seen: Seen::default() }
+    }
+
+    /// How many cases differed.
+    pub(super) fn differed(&self) -> usize {
+        self.counts.iter().map(|count| count.differed).sum()
+    }
+
+    /// Runs cases with a seed, each kind for its part of the time, and at least one of each.
+    pub(super) fn round(&mut self, seed: u64, time: Duration) -> io::Result<()> {
+        for (place, kind) in KINDS.iter().enumerate() {
+            let end = Instant::now() + time / KINDS.len() as u32;
+            for number in 0.. {
+                if self.differed() >= MOST_DIFFERENCES {
+                    return Ok(());
+                }
+                let case = (kind.make)(&mut Random::new(case_seed(seed, place, number)));
+                self.case(seed, place, number, &case)?;
+                if Instant::now() >= end {
+                    break;
+                }
+            }
+        }
+        Ok(())
+    }
+
+    fn case(&mut self, seed: u64, kind: usize, number: u64, case: &Case) -> io::Result<()> {
+        let Outcome { calls, seen, difference } = compare::run(self.engine, case);
+        self.seen.add(&seen);
+        self.counts[kind].add(&Count { cases: 1, calls, differed: usize::from(difference.is_some()) });
+        if difference.is_some() {
+            let title = format!("{}, seed {seed}, case {number}", KINDS[kind].name);
+            let path = self.folder.join(format!("{seed}-{}.txt", self.differed()));
+            self.write(&path, &title, case)?;
+        }
+        Ok(())
+    }
+
+    /// Writes down a case that differs, made smaller.
+    fn write(&self, path: &Path, title: &str, case: &Case) -> io::Result<()> {
+        let small = shrink(self.engine, case);
+        // An engine that differs only now and then may not differ again: then the case itself is shown.
+        let (shown, outcome) = match compare::run(self.engine, &small) {
+            again @ Outcome { difference: Some(_), .. } => (&small, again),
+            _ => (case, compare::run(self.engine, case)),
+        };
+        let words = match outcome.difference {
+            Some(d) => format!("call {}: {}\n  expected {}\n  got      {}", d.call, d.what, d.expected, d.got),
+            None => "differed once, and not when run again".to_string(),
+        };
+        std::fs::create_dir_all(self.folder)?;
+        std::fs::write(path, format!("{title}\n{shown}differs at {words}\n"))?;
+        println!("differs: {title}\n  {words}\n  written to {}", path.display());
+        Ok(())
+    }
+
+    /// Prints a line for each kind, the totals, and what came up.
+    fn print(&self) {
+        let line = |name: &str, count: &Count| {
+            let Count { cases, calls, differed } = count;
+            println!("{name:26} {cases:9} cases {calls:10} calls compared {differed:4} differed");
+        };
+        let mut total = Count::default();
+        for (Kind { name, .. }, count) in KINDS.iter().zip(&self.counts) {
+            line(name, count);
+            total.add(count);
+        }
+        line("total", &total);
+        println!("{}", self.seen);
+    }
+}
+
+/// A seed from the clock.
+fn seed_from_clock() -> u64 {
+    let since = SystemTime::now().duration_since(UNIX_EPOCH).unwrap_or_default();
+    since.as_millis() as u64
+}
+
+/// Runs the fixed set and a fresh one; true if nothing differed and every sort of answer came up. An error is of
+/// writing down a case.
+pub fn test(engine: &impl Engine) -> io::Result<bool> {
+    let mut test = Test::new(engine, Path::new(FOLDER));
+    let fresh = seed_from_clock();
+    println!("seeds {FIXED_SEED} (fixed) and {fresh} (from the clock)");
+    test.round(FIXED_SEED, FIXED_TIME)?;
+    test.round(fresh, FRESH_TIME)?;
+    test.print();
+    let lacking = test.seen.lacking();
+    if !lacking.is_empty() {
+        println!("never came up: {}", lacking.join(", "));
+    }
+    Ok(test.differed() == 0 && lacking.is_empty())
+}
+
+/// Runs for so many seconds from a seed, or from the clock's, taking the next seed each round; true if nothing
+/// differed.
+pub fn soak(engine: &impl Engine, seconds: u64, seed: Option<u64>) -> io::Result<bool> {
+    let mut test = Test::new(engine, Path::new(FOLDER));
+    let mut seed = seed.unwrap_or_else(seed_from_clock);
+    let (start, time) = (Instant::now(), Duration::from_secs(seconds));
+    while start.elapsed() < time && test.differed() < MOST_DIFFERENCES {
+        println!("seed {seed}");
+        test.round(seed, ROUND.min(time.saturating_sub(start.elapsed())))?;
+        seed = seed.wrapping_add(1);
+    }
+    test.print();
+    Ok(test.differed() == 0)
+}

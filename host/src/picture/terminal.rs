@@ -1,0 +1,35 @@
+//! A footprint for a terminal: a character for each place, and a legend.
+
+use super::{Drawing, Mark, NO_RING};
+use crate::answers::grouped;
+
+/// The picture's lines.
+pub fn terminal(drawing: &Drawing) -> Vec<String> {
+    let edge = format!("+{}+", "-".repeat(drawing.columns));
+    let mut lines = vec![edge.clone()];
+    for row in 0..drawing.rows {
+        let places = row * drawing.columns..(row + 1) * drawing.columns;
+        let symbols: String = places.map(|place| drawing.mark(place).map_or(' ', symbol)).collect();
+        lines.push(format!("|{symbols}|"));
+    }
+    lines.push(edge);
+    for (mark, count) in drawing.legend() {
+        let (cells, people) = (grouped(count.cells as u64), grouped(count.people));
+        lines.push(format!("{}  {cells:>6} cells {people:>11} people  {}", symbol(mark), mark.words()));
+    }
+    if drawing.last_ring.is_none() {
+        lines.push(NO_RING.to_string());
+    }
+    lines
+}
+
+fn symbol(mark: Mark) -> char {
+    match mark {
+        Mark::CoveredIn => '#',
+        Mark::JoinedIn => '*',
+        Mark::RingIn => '+',
+        Mark::RingOut => '-',
+        Mark::CoveredOut => 'o',
+        Mark::Out => '.',
+    }
+}

@@ -1,0 +1,777 @@
+/*
+ * Codwalet used from C: sizes and offsets of the header's structs, and a run through every function. The maps are
+ * written here, and the answers that are due are counted by hand from document 01.
+ */
+#include "codwalet.h"
+
+#include <stdio.h>
+#include <stdlib.h>
+#include <string.h>
+
+#define SIZE(type, bytes) _Static_assert(sizeof(type) == (bytes), "size of " #type)
+#define FIELD(type, name, at, bytes) \
+    _Static_assert(offsetof(type, name) == (at) && sizeof(((type *)0)->name) == (bytes), #type "." #name)
+
+SIZE(codwalet_licence, 24);
+FIELD(codwalet_licence, call_sign, 0, 4);
+FIELD(codwalet_licence, area, 4, 2);
+FIELD(codwalet_licence, kind, 6, 1);
+FIELD(codwalet_licence, unused, 7, 1);
+FIELD(codwalet_licence, south, 8, 4);
+FIELD(codwalet_licence, north, 12, 4);
+FIELD(codwalet_licence, west, 16, 4);
+FIELD(codwalet_licence, east, 20, 4);
+
+SIZE(codwalet_register, 1536);
+FIELD(codwalet_register, places, 0, 64 * 24);
+
+SIZE(codwalet_step, 1540);
+FIELD(codwalet_step, next, 0, 1536);
+FIELD(codwalet_step, refusal, 1536, 4);
+
+SIZE(codwalet_area, 48);
+FIELD(codwalet_area, refusal, 0, 4);
+FIELD(codwalet_area, weight, 4, 4);
+FIELD(codwalet_area, rows, 8, 8);
+FIELD(codwalet_area, columns, 16, 8);
+FIELD(codwalet_area, population, 24, 8);
+FIELD(codwalet_area, offset, 32, 8);
+FIELD(codwalet_area, length, 40, 8);
+
+SIZE(codwalet_covered, 16);
+FIELD(codwalet_covered, people, 0, 8);
+FIELD(codwalet_covered, refusal, 8, 4);
+FIELD(codwalet_covered, unused, 12, 4);
+
+SIZE(codwalet_held, 32);
+FIELD(codwalet_held, whole, 0, 8);
+FIELD(codwalet_held, value, 8, 8);
+FIELD(codwalet_held, size, 16, 8);
+FIELD(codwalet_held, refusal, 24, 4);
+FIELD(codwalet_held, unused, 28, 4);
+
+SIZE(codwalet_given, 24);
+FIELD(codwalet_given, number, 0, 4);
+FIELD(codwalet_given, gets, 4, 4);
+FIELD(codwalet_given, blocks, 8, 8);
+FIELD(codwalet_given, share, 16, 8);
+
+SIZE(codwalet_proposal, 808);
+FIELD(codwalet_proposal, refusal, 0, 4);
+FIELD(codwalet_proposal, kind, 4, 4);
+FIELD(codwalet_proposal, tied, 8, 8);
+FIELD(codwalet_proposal, count, 16, 8);
+FIELD(codwalet_proposal, target, 24, 8);
+FIELD(codwalet_proposal, white_space, 32, 8);
+FIELD(codwalet_proposal, areas, 40, 32 * 24);
+
+SIZE(codwalet_outline, 16);
+FIELD(codwalet_outline, refusal, 0, 4);
+FIELD(codwalet_outline, area, 4, 4);
+FIELD(codwalet_outline, needed, 8, 8);
+
+/* Checks. */
+
+static unsigned checks;
+static const char *checked = ""; /* the case that is being checked */
+
+static void fail(const char *what, int line)
+{
+    fprintf(stderr, "interface.c:%d: %s: %s", line, checked, what);
+}
+
+static void check_true(int holds, const char *what, int line)
+{
+    checks++;
+    if (!holds) {
+        fail(what, line);
+        fprintf(stderr, " does not hold\n");
+        exit(1);
+    }
+}
+
+static void check_equal(uint64_t got, uint64_t due, const char *what, int line)
+{
+    checks++;
+    if (got != due) {
+        fail(what, line);
+        fprintf(stderr, " is %llu, due is %llu\n", (unsigned long long)got, (unsigned long long)due);
+        exit(1);
+    }
+}
+
+static void check_bytes(const void *got, const void *due, size_t length, const char *what, int line)
+{
+    const uint8_t *a = got, *b = due;
+    checks++;
+    for (size_t i = 0; i < length; i++) {
+        if (a[i] != b[i]) {
+            fail(what, line);
+            fprintf(stderr, ": byte %zu is %u, due is %u\n", i, a[i], b[i]);
+            exit(1);
+        }
+    }
+}
+
+#define CHECK(what) check_true((what), #what, __LINE__)
+#define EQUAL(got, due) check_equal((got), (due), #got, __LINE__)
+#define SAME(got, due) check_bytes(&(got), &(due), sizeof(due), #got, __LINE__)
+
+/* Maps. */
+
+#define NO_CELL UINT32_MAX
+#define STEP 100 /* between neighbouring points, in both directions */
+
+typedef struct {
+    uint8_t bytes[2048];
+    size_t length;
+} map_bytes;
+
+static void put(map_bytes *map, uint32_t value, int bytes)
+{
+    for (int i = 0; i < bytes; i++)
+        map->bytes[map->length++] = (uint8_t)(value >> (8 * i));
+}
+
+static void begin_map(map_bytes *map, size_t areas)
+{
+    memset(map, 0, sizeof *map);
+    put(map, (uint32_t)areas, 1);
+}
+
+/* A row: its bit map, then its cells, at the latitude given and from the longitude given eastwards. */
+static void add_row(map_bytes *map, size_t columns, const uint32_t *people, int32_t latitude, int32_t west)
+{
+    uint8_t *bits = map->bytes + map->length;
+    map->length += (columns + 7) / 8;
+    for (size_t j = 0; j < columns; j++) {
+        if (people[j] == NO_CELL)
+            continue;
+        bits[j / 8] |= (uint8_t)(1u << (j % 8));
+        put(map, people[j], 4);
+        put(map, (uint32_t)latitude, 4);
+        put(map, (uint32_t)(west + STEP * (int32_t)j), 4);
+    }
+}
+
+/* An area, whose first row is at latitude 0 and whose first column is at the longitude given. */
+static void add_area(map_bytes *map, uint32_t number, uint32_t weight, size_t rows, size_t columns,
+                     const uint32_t *people, int32_t west)
+{
+    put(map, number, 2);
+    put(map, weight, 4);
+    put(map, (uint32_t)rows, 1);
+    put(map, (uint32_t)columns, 1);
+    for (size_t i = 0; i < rows; i++)
+        add_row(map, columns, people + i * columns, -STEP * (int32_t)i, west);
+}
+
+/* Licences and registers. */
+
+static codwalet_licence area_licence(uint32_t call_sign, uint16_t area)
+{
+    codwalet_licence licence = {.call_sign = call_sign, .area = area, .kind = CODWALET_GROUND_AREA};
+    return licence;
+}
+
+static codwalet_licence box_licence(uint32_t call_sign, int32_t south, int32_t north, int32_t west, int32_t east)
+{
+    codwalet_licence licence = {.call_sign = call_sign, .kind = CODWALET_GROUND_BOX,
+                                .south = south, .north = north, .west = west, .east = east};
+    return licence;
+}
+
+/* The register with a licence granted, where nothing refuses it. */
+static codwalet_register with(codwalet_register current, codwalet_licence licence)
+{
+    codwalet_step step = codwalet_grant(current, licence);
+    EQUAL(step.refusal, CODWALET_ACCEPTED);
+    return step.next;
+}
+
+/* The register with n licences, call signs 1 to n, each over the area of its call sign's number. */
+static codwalet_register with_areas(uint32_t n)
+{
+    codwalet_register current = codwalet_empty();
+    for (uint32_t i = 1; i <= n; i++)
+        current = with(current, area_licence(i, (uint16_t)i));
+    return current;
+}
+
+/* The one place that has the call sign, or CODWALET_LIMIT where none has. */
+static size_t place_of(const codwalet_register *current, uint32_t call_sign)
+{
+    size_t place = CODWALET_LIMIT;
+    for (size_t i = 0; i < CODWALET_LIMIT; i++) {
+        if (current->places[i].call_sign == call_sign) {
+            CHECK(place == CODWALET_LIMIT);
+            place = i;
+        }
+    }
+    return place;
+}
+
+/* A grant adds its licence at a free place, a cancellation frees the place, and no other place changes. */
+static void grants_and_cancellations(void)
+{
+    const codwalet_licence granted[] = {
+        area_licence(11, 1),
+        area_licence(12, 416),
+        box_licence(13, -5, 5, -7, 7),
+        box_licence(14, -32400000, 32400000, -64800000, 64800000),
+        box_licence(UINT32_MAX, 0, 1, 0, 1),
+    };
+    codwalet_register current = codwalet_empty();
+    for (size_t i = 0; i < CODWALET_LIMIT; i++)
+        EQUAL(current.places[i].call_sign, 0);
+    for (size_t i = 0; i < sizeof granted / sizeof granted[0]; i++) {
+        codwalet_register before = current;
+        uint32_t call_sign = granted[i].call_sign;
+        current = with(before, granted[i]);
+        size_t place = place_of(&current, call_sign);
+        CHECK(place < CODWALET_LIMIT);
+        EQUAL(before.places[place].call_sign, 0);
+        SAME(current.places[place], granted[i]);
+        before.places[place] = granted[i];
+        SAME(current, before);
+
+        codwalet_step cancelled = codwalet_cancel(current, call_sign);
+        EQUAL(cancelled.refusal, CODWALET_ACCEPTED);
+        EQUAL(place_of(&cancelled.next, call_sign), CODWALET_LIMIT);
+        current = with(cancelled.next, granted[i]);
+        CHECK(place_of(&current, call_sign) < CODWALET_LIMIT);
+    }
+}
+
+/* A refused grant or cancellation hands back its register byte for byte, whatever its free places hold. */
+static void refused_grant(codwalet_register current, codwalet_licence licence, uint32_t refusal)
+{
+    codwalet_step step = codwalet_grant(current, licence);
+    EQUAL(step.refusal, refusal);
+    SAME(step.next, current);
+}
+
+static void refused_cancellation(codwalet_register current, uint32_t call_sign)
+{
+    codwalet_step step = codwalet_cancel(current, call_sign);
+    EQUAL(step.refusal, CODWALET_NOT_IN_FORCE);
+    SAME(step.next, current);
+}
+
+static const struct {
+    const char *name;
+    codwalet_licence licence; /* call sign, area, kind, unused, south, north, west, east */
+} ill_formed[] = {
+    {"call sign 0", {0, 5, 0, 0, 0, 0, 0, 0}},
+    {"area 0", {1, 0, 0, 0, 0, 1, 0, 1}},
+    {"area 417", {1, 417, 0, 0, 0, 1, 0, 1}},
+    {"ground of kind 2", {1, 5, 2, 0, 0, 1, 0, 1}},
+    {"ground of kind 255", {1, 5, 255, 0, 0, 1, 0, 1}},
+    {"south is north", {1, 5, 1, 0, 3, 3, 0, 1}},
+    {"south above north", {1, 5, 1, 0, 4, 3, 0, 1}},
+    {"west is east", {1, 5, 1, 0, 0, 1, -3, -3}},
+    {"west past east", {1, 5, 1, 0, 0, 1, -3, -4}},
+    {"south outside its limits", {1, 5, 1, 0, -32400001, 0, 0, 1}},
+    {"north outside its limits", {1, 5, 1, 0, 0, 32400001, 0, 1}},
+    {"west outside its limits", {1, 5, 1, 0, 0, 1, -64800001, 0}},
+    {"east outside its limits", {1, 5, 1, 0, 0, 1, 0, 64800001}},
+};
+
+static void refusals_of_the_register(void)
+{
+    codwalet_register some = with_areas(3);
+    for (size_t i = 0; i < CODWALET_LIMIT; i++) {
+        some.places[i].unused = 0xA5;
+        if (some.places[i].call_sign == 0) {
+            memset(&some.places[i], 0xA5, sizeof some.places[i]);
+            some.places[i].call_sign = 0;
+        }
+    }
+    codwalet_register full = with_areas(CODWALET_LIMIT);
+    for (size_t i = 0; i < sizeof ill_formed / sizeof ill_formed[0]; i++) {
+        checked = ill_formed[i].name;
+        refused_grant(some, ill_formed[i].licence, CODWALET_ILL_FORMED);
+        refused_grant(full, ill_formed[i].licence, CODWALET_ILL_FORMED);
+    }
+    checked = "refusals of the register";
+    refused_grant(some, area_licence(3, 9), CODWALET_IN_FORCE);
+    refused_grant(full, area_licence(CODWALET_LIMIT, 9), CODWALET_IN_FORCE);
+    refused_grant(full, area_licence(CODWALET_LIMIT + 1, 9), CODWALET_FULL);
+    refused_cancellation(some, 4);
+    refused_cancellation(some, 0);
+    refused_cancellation(full, CODWALET_LIMIT + 1);
+    refused_cancellation(codwalet_empty(), 1);
+
+    codwalet_step freed = codwalet_cancel(full, 17);
+    EQUAL(freed.refusal, CODWALET_ACCEPTED);
+    full = with(freed.next, area_licence(CODWALET_LIMIT + 1, 9));
+    refused_grant(full, area_licence(17, 17), CODWALET_FULL);
+}
+
+/* Footprints into buffers that end in guards. */
+
+#define GUARD 0xEE
+#define ENTRY 0x5A5A
+
+typedef struct {
+    uint8_t mask[64];
+    uint16_t table[64];
+} buffers;
+
+static buffers guards(void)
+{
+    buffers lent;
+    memset(lent.mask, GUARD, sizeof lent.mask);
+    for (size_t i = 0; i < sizeof lent.table / sizeof lent.table[0]; i++)
+        lent.table[i] = ENTRY;
+    return lent;
+}
+
+/* A footprint that is refused and touches no buffer. */
+static void refused_footprint(const map_bytes *map, codwalet_register current, size_t places, size_t entries,
+                              uint32_t refusal)
+{
+    buffers lent = guards(), before = guards();
+    codwalet_outline due = {.refusal = refusal};
+    codwalet_outline made =
+        codwalet_footprint(map->bytes, map->length, current, 0, lent.mask, places, lent.table, entries);
+    EQUAL(made.refusal, refusal);
+    SAME(made, due);
+    SAME(lent.mask, before.mask);
+    SAME(lent.table, before.table);
+}
+
+/* The map that is checked and looked up in: area 3 with one row of two cells, area 416 with the largest population. */
+
+enum {
+    FIRST_HEAD = 1,
+    FIRST_ROWS = 9,
+    SECOND_HEAD = 34,
+    SECOND_ROWS = 42,
+    LAST_CELL = 528,
+    WHOLE_MAP = 540
+};
+
+static map_bytes sound_map(void)
+{
+    const uint32_t first[2] = {5, 0};
+    uint32_t second[41] = {0};
+    map_bytes map;
+    for (size_t j = 0; j < 40; j++)
+        second[j] = 1000000;
+    begin_map(&map, 2);
+    add_area(&map, 3, 65535, 1, 2, first, -STEP);
+    add_area(&map, 416, 1, 1, 41, second, 0);
+    EQUAL(map.length, WHOLE_MAP);
+    return map;
+}
+
+static void accepted_map(void)
+{
+    map_bytes map = sound_map();
+    codwalet_area first = {.weight = 65535, .rows = 1, .columns = 2, .population = 5,
+                           .offset = FIRST_ROWS, .length = SECOND_HEAD - FIRST_ROWS};
+    codwalet_area second = {.weight = 1, .rows = 1, .columns = 41, .population = 40000000,
+                            .offset = SECOND_ROWS, .length = WHOLE_MAP - SECOND_ROWS};
+    codwalet_area none = {0};
+    codwalet_area found;
+    EQUAL(codwalet_check_map(map.bytes, map.length), CODWALET_ACCEPTED);
+    found = codwalet_look_up(map.bytes, map.length, 3);
+    SAME(found, first);
+    found = codwalet_look_up(map.bytes, map.length, 416);
+    SAME(found, second);
+    const uint16_t lacking[] = {0, 2, 4, 417, UINT16_MAX};
+    for (size_t i = 0; i < sizeof lacking / sizeof lacking[0]; i++) {
+        found = codwalet_look_up(map.bytes, map.length, lacking[i]);
+        SAME(found, none);
+    }
+}
+
+/* Rows of an area with gaps: the bit maps take two bytes, and only the cells that are there follow. */
+static void map_with_gaps(void)
+{
+    const uint32_t people[18] = {
+        1, NO_CELL, 2, NO_CELL, NO_CELL, NO_CELL, NO_CELL, NO_CELL, 4,
+        NO_CELL, NO_CELL, NO_CELL, NO_CELL, NO_CELL, NO_CELL, NO_CELL, NO_CELL, NO_CELL,
+    };
+    const codwalet_area due = {.weight = 7, .rows = 2, .columns = 9, .population = 7,
+                               .offset = FIRST_ROWS, .length = 40};
+    map_bytes map;
+    begin_map(&map, 1);
+    add_area(&map, 10, 7, 2, 9, people, 0);
+    codwalet_area found = codwalet_look_up(map.bytes, map.length, 10);
+    SAME(found, due);
+}
+
+static const struct {
+    const char *name;
+    uint32_t refusal;
+    size_t at; /* where a value is written, in so many bytes: none where only the length changes */
+    uint32_t value;
+    int bytes;
+    int longer;
+} map_faults[] = {
+    {"a byte missing", CODWALET_MAP_ENDS, 0, 0, 0, -1},
+    {"no byte at all", CODWALET_MAP_ENDS, 0, 0, 0, -WHOLE_MAP},
+    {"one area", CODWALET_MAP_EXTRA, 0, 1, 1, 0},
+    {"three areas", CODWALET_MAP_ENDS, 0, 3, 1, 0},
+    {"no area", CODWALET_MAP_LIMIT, 0, 0, 1, 0},
+    {"33 areas", CODWALET_MAP_LIMIT, 0, 33, 1, 0},
+    {"number 0", CODWALET_MAP_LIMIT, FIRST_HEAD, 0, 2, 0},
+    {"number 417", CODWALET_MAP_LIMIT, SECOND_HEAD, 417, 2, 0},
+    {"number as before", CODWALET_MAP_ORDER, SECOND_HEAD, 3, 2, 0},
+    {"number below the one before", CODWALET_MAP_ORDER, SECOND_HEAD, 2, 2, 0},
+    {"weight 0", CODWALET_MAP_LIMIT, FIRST_HEAD + 2, 0, 4, 0},
+    {"weight 65,536", CODWALET_MAP_LIMIT, FIRST_HEAD + 2, 65536, 4, 0},
+    {"no row", CODWALET_MAP_LIMIT, FIRST_HEAD + 6, 0, 1, 0},
+    {"129 rows", CODWALET_MAP_LIMIT, FIRST_HEAD + 6, 129, 1, 0},
+    {"no column", CODWALET_MAP_LIMIT, FIRST_HEAD + 7, 0, 1, 0},
+    {"129 columns", CODWALET_MAP_LIMIT, FIRST_HEAD + 7, 129, 1, 0},
+    {"a bit past the last column", CODWALET_MAP_LIMIT, FIRST_ROWS, 7, 1, 0},
+    {"people above 1,000,000", CODWALET_MAP_LIMIT, FIRST_ROWS + 1, 1000001, 4, 0},
+    {"latitude above its limit", CODWALET_MAP_LIMIT, FIRST_ROWS + 5, 32400001, 4, 0},
+    {"latitude below its limit", CODWALET_MAP_LIMIT, FIRST_ROWS + 5, (uint32_t)-32400001, 4, 0},
+    {"longitude above its limit", CODWALET_MAP_LIMIT, FIRST_ROWS + 9, 64800001, 4, 0},
+    {"longitude below its limit", CODWALET_MAP_LIMIT, FIRST_ROWS + 9, (uint32_t)-64800001, 4, 0},
+    {"a byte after the last area", CODWALET_MAP_EXTRA, 0, 0, 0, 1},
+    {"population 0", CODWALET_MAP_POPULATION, FIRST_ROWS + 1, 0, 4, 0},
+    {"population above 40,000,000", CODWALET_MAP_POPULATION, LAST_CELL, 1, 4, 0},
+};
+
+/* Every function that reads a map refuses it by the same number, with nothing else in its answer. */
+static void refused_map(const map_bytes *map, uint32_t refusal)
+{
+    codwalet_register current = with(codwalet_empty(), area_licence(1, 3));
+    codwalet_area area = {.refusal = refusal};
+    codwalet_covered covered = {.refusal = refusal};
+    codwalet_held held = {.refusal = refusal};
+    codwalet_proposal proposal = {.refusal = refusal};
+    EQUAL(codwalet_check_map(map->bytes, map->length), refusal);
+    codwalet_area found = codwalet_look_up(map->bytes, map->length, 3);
+    SAME(found, area);
+    codwalet_covered counted = codwalet_coverage(map->bytes, map->length, current, 3);
+    SAME(counted, covered);
+    codwalet_held blocks = codwalet_blocks(map->bytes, map->length, current, 3);
+    SAME(blocks, held);
+    codwalet_proposal proposed = codwalet_propose(map->bytes, map->length, current, 0);
+    SAME(proposed, proposal);
+    refused_footprint(map, current, 64, 64, refusal);
+}
+
+static void refused_maps(void)
+{
+    for (size_t i = 0; i < sizeof map_faults / sizeof map_faults[0]; i++) {
+        checked = map_faults[i].name;
+        map_bytes map = sound_map();
+        map.length = map_faults[i].at;
+        put(&map, map_faults[i].value, map_faults[i].bytes);
+        map.length = (size_t)(WHOLE_MAP + map_faults[i].longer);
+        refused_map(&map, map_faults[i].refusal);
+    }
+}
+
+/* A box covers its south and west edges, not its north and east ones. The one cell is at latitude 0, longitude -300. */
+
+static const struct {
+    const char *name;
+    int32_t south, north, west, east;
+    uint64_t people;
+} edges[] = {
+    {"box around the point", -1, 1, -301, -299, 6},
+    {"south edge on the point", 0, 1, -301, -299, 6},
+    {"north edge on the point", -1, 0, -301, -299, 0},
+    {"west edge on the point", -1, 1, -300, -299, 6},
+    {"east edge on the point", -1, 1, -301, -300, 0},
+};
+
+static void coverage_of_boxes(void)
+{
+    const uint32_t people[1] = {6};
+    map_bytes map;
+    begin_map(&map, 1);
+    add_area(&map, 1, 1, 1, 1, people, -300);
+    for (size_t i = 0; i < sizeof edges / sizeof edges[0]; i++) {
+        checked = edges[i].name;
+        codwalet_licence box = box_licence(7, edges[i].south, edges[i].north, edges[i].west, edges[i].east);
+        codwalet_covered due = {.people = edges[i].people};
+        codwalet_covered covered = codwalet_coverage(map.bytes, map.length, with(codwalet_empty(), box), 1);
+        SAME(covered, due);
+    }
+}
+
+/* A licence counts from its grant until its cancellation, twice under two licences, and not in another area. */
+static void coverage_in_force(void)
+{
+    const uint32_t people[2] = {6, 4};
+    codwalet_register current = codwalet_empty();
+    map_bytes map;
+    begin_map(&map, 1);
+    add_area(&map, 8, 1, 1, 2, people, 0);
+    EQUAL(codwalet_coverage(map.bytes, map.length, current, 8).people, 0);
+    current = with(current, area_licence(1, 8));
+    EQUAL(codwalet_coverage(map.bytes, map.length, current, 8).people, 10);
+    current = with(current, box_licence(2, 0, 1, 0, STEP));
+    EQUAL(codwalet_coverage(map.bytes, map.length, current, 8).people, 16);
+    current = with(current, area_licence(3, 9));
+    EQUAL(codwalet_coverage(map.bytes, map.length, current, 8).people, 16);
+    current = codwalet_cancel(current, 1).next;
+    EQUAL(codwalet_coverage(map.bytes, map.length, current, 8).people, 6);
+    current = with(current, area_licence(1, 8));
+    EQUAL(codwalet_coverage(map.bytes, map.length, current, 8).people, 16);
+
+    codwalet_covered none = {0};
+    codwalet_covered covered = codwalet_coverage(map.bytes, map.length, current, 9);
+    SAME(covered, none);
+    codwalet_held no_blocks = {0};
+    codwalet_held held = codwalet_blocks(map.bytes, map.length, current, 9);
+    SAME(held, no_blocks);
+}
+
+/* Holdings: areas 1, 2, .. of two cells. Licences for the area cover all of it, and a box its first cell. */
+
+typedef struct {
+    uint32_t weight, population, covered;
+} area_held;
+
+typedef struct {
+    map_bytes map;
+    codwalet_register current;
+} holdings;
+
+static void hold_area(holdings *h, uint32_t number, area_held area)
+{
+    int32_t west = 10 * STEP * (int32_t)number;
+    uint32_t rest = area.covered % area.population;
+    uint32_t people[2] = {rest, area.population - rest};
+    uint32_t call_sign = 100 * number;
+    add_area(&h->map, number, area.weight, 1, 2, people, west);
+    for (uint32_t i = 0; i < area.covered / area.population; i++)
+        h->current = with(h->current, area_licence(call_sign++, (uint16_t)number));
+    if (rest > 0)
+        h->current = with(h->current, box_licence(call_sign, 0, 1, west, west + STEP));
+}
+
+static holdings hold(const area_held *areas, size_t count)
+{
+    holdings h;
+    h.current = codwalet_empty();
+    begin_map(&h.map, count);
+    for (size_t i = 0; i < count; i++)
+        hold_area(&h, (uint32_t)i + 1, areas[i]);
+    return h;
+}
+
+static const struct {
+    const char *name;
+    area_held area;
+    uint64_t whole, value, size;
+} blocks_due[] = {
+    {"no licence", {1, 100, 0}, 0, 0, 0},
+    {"one person in part of a block", {1, 100, 1}, 0, 50, 10000},
+    {"blocks of holding 1", {1, 100, 198}, 1, 0, 0},
+    {"blocks of holding 2", {1, 100, 197}, 0, 9850, 10000},
+    {"two whole licences", {1, 100, 200}, 1, 0, 0},
+    {"a block and a part", {1, 100, 301}, 1, 5050, 10000},
+    {"a block and 99 in the hundred", {1, 100, 398}, 2, 0, 0},
+    {"weight 3", {3, 120, 200}, 0, 30000, 36000},
+};
+
+static void blocks_of_an_area(void)
+{
+    for (size_t i = 0; i < sizeof blocks_due / sizeof blocks_due[0]; i++) {
+        checked = blocks_due[i].name;
+        holdings h = hold(&blocks_due[i].area, 1);
+        EQUAL(codwalet_coverage(h.map.bytes, h.map.length, h.current, 1).people, blocks_due[i].area.covered);
+        codwalet_held due = {.whole = blocks_due[i].whole, .value = blocks_due[i].value, .size = blocks_due[i].size};
+        codwalet_held held = codwalet_blocks(h.map.bytes, h.map.length, h.current, 1);
+        SAME(held, due);
+    }
+}
+
+#define NOTHING CODWALET_GETS_NOTHING
+#define WHOLE CODWALET_GETS_WHOLE
+#define ROUNDED CODWALET_GETS_ROUNDED_UP
+#define SHARE CODWALET_GETS_SHARE
+
+static const struct {
+    const char *name;
+    uint32_t draw;
+    size_t count;
+    area_held areas[4]; /* weight, population, covered */
+    uint32_t kind;
+    uint64_t target, white_space, tied;
+    codwalet_given given[4]; /* number, gets, blocks, share */
+} proposals[] = {
+    {"holding 1", 0, 1, {{1, 100, 198}}, 1, 0, 0, 0, {{1, NOTHING, 1, 0}}},
+    {"holding 2", 0, 1, {{1, 100, 197}}, 2, 9850, 150, 1, {{1, ROUNDED, 0, 0}}},
+    {"holding 3", 0, 1, {{1, 100, 180}}, 2, 9000, 1000, 1, {{1, ROUNDED, 0, 0}}},
+    {"holding 4", 0, 1, {{1, 100, 179}}, 3, 8950, 1050, 1, {{1, SHARE, 0, 8950}}},
+    {"holding 5", 0, 2, {{1, 100, 100}, {1, 100, 100}}, 1, 10000, 0, 0, {{1, WHOLE, 0, 0}, {2, NOTHING, 0, 0}}},
+    {"holding 6", 0, 2, {{1, 100, 100}, {1, 40, 40}}, 3, 7000, 3000, 1, {{1, SHARE, 0, 7000}, {2, NOTHING, 0, 0}}},
+    {"holding 7", 0, 4, {{1, 1000, 1000}, {1, 330, 300}, {1, 330, 300}, {1, 330, 300}}, 2, 95000, 5000, 1,
+     {{1, ROUNDED, 0, 0}, {2, NOTHING, 0, 0}, {3, NOTHING, 0, 0}, {4, NOTHING, 0, 0}}},
+    {"holding 8", 0, 2, {{1, 100, 180}, {3, 120, 200}}, 3, 39000, 7000, 1, {{1, WHOLE, 0, 0}, {2, SHARE, 0, 29000}}},
+    {"holding 9, draw 0", 0, 2, {{1, 100, 150}, {1, 100, 150}}, 3, 15000, 5000, 2,
+     {{1, SHARE, 0, 5000}, {2, WHOLE, 0, 0}}},
+    {"holding 9, draw 3", 3, 2, {{1, 100, 150}, {1, 100, 150}}, 3, 15000, 5000, 2,
+     {{1, WHOLE, 0, 0}, {2, SHARE, 0, 5000}}},
+};
+
+static void proposals_by_hand(void)
+{
+    for (size_t i = 0; i < sizeof proposals / sizeof proposals[0]; i++) {
+        checked = proposals[i].name;
+        holdings h = hold(proposals[i].areas, proposals[i].count);
+        codwalet_proposal due = {.kind = proposals[i].kind, .tied = proposals[i].tied, .count = proposals[i].count,
+                                 .target = proposals[i].target, .white_space = proposals[i].white_space};
+        memcpy(due.areas, proposals[i].given, sizeof proposals[i].given);
+        codwalet_proposal proposal = codwalet_propose(h.map.bytes, h.map.length, h.current, proposals[i].draw);
+        EQUAL(proposal.refusal, CODWALET_ACCEPTED);
+        EQUAL(proposal.kind, due.kind);
+        EQUAL(proposal.target, due.target);
+        EQUAL(proposal.white_space, due.white_space);
+        EQUAL(proposal.tied, due.tied);
+        EQUAL(proposal.count, due.count);
+        SAME(proposal.areas, due.areas);
+        if (proposal.kind != CODWALET_ONE_PART)
+            refused_footprint(&h.map, h.current, 0, 0, CODWALET_NOT_ONE_PART);
+    }
+}
+
+/* 20 partial areas are proposed for, 21 are refused. */
+static void many_partial_areas(void)
+{
+    area_held areas[21];
+    for (size_t i = 0; i < 21; i++)
+        areas[i] = (area_held){1, 100, 100};
+    holdings most = hold(areas, 20);
+    codwalet_proposal proposal = codwalet_propose(most.map.bytes, most.map.length, most.current, 0);
+    EQUAL(proposal.refusal, CODWALET_ACCEPTED);
+    EQUAL(proposal.kind, CODWALET_EXACT);
+
+    holdings more = hold(areas, 21);
+    codwalet_proposal due = {.refusal = CODWALET_TOO_MANY};
+    proposal = codwalet_propose(more.map.bytes, more.map.length, more.current, 0);
+    SAME(proposal, due);
+    refused_footprint(&more.map, more.current, 0, 0, CODWALET_TOO_MANY);
+}
+
+/* Holdings 10 to 12: one row, and boxes over columns 2 and 3. */
+
+#define PLACES 5
+#define OUTLINED 77 /* the area's number */
+
+static holdings hold_row(uint32_t licences)
+{
+    const uint32_t people[PLACES] = {5, 0, 4, 3, 8};
+    holdings h;
+    h.current = codwalet_empty();
+    begin_map(&h.map, 1);
+    add_area(&h.map, OUTLINED, 1, 1, PLACES, people, 0);
+    for (uint32_t i = 1; i <= licences; i++)
+        h.current = with(h.current, box_licence(i, 0, 1, 2 * STEP, 4 * STEP));
+    return h;
+}
+
+static const struct {
+    const char *name;
+    uint32_t licences;
+    size_t entries; /* slack + 1, or none */
+    uint8_t mask[PLACES];
+} footprints[] = {
+    {"holding 10", 1, 4, {0, 0, 1, 0, 0}},
+    {"holding 11", 2, 0, {0, 0, 1, 1, 0}},
+    {"holding 12", 3, 5, {0, 1, 1, 1, 1}},
+};
+
+/* Buffers longer than needed, and just as long: the footprint is the same, and nothing past what it uses changes. */
+static void made_footprint(const holdings *h, const uint8_t *mask, size_t used, size_t places, size_t entries)
+{
+    const codwalet_outline due = {.area = OUTLINED};
+    buffers lent = guards(), after = guards();
+    memcpy(after.mask, mask, PLACES);
+    codwalet_outline made =
+        codwalet_footprint(h->map.bytes, h->map.length, h->current, 0, lent.mask, places, lent.table, entries);
+    SAME(made, due);
+    SAME(lent.mask, after.mask);
+    memcpy(lent.table, after.table, used * sizeof after.table[0]);
+    SAME(lent.table, after.table);
+}
+
+/* Refused by 8: the count needed comes, the area's mask bytes are 0, and the table stays. */
+static void short_table(const holdings *h, size_t entries, size_t needed)
+{
+    const codwalet_outline due = {.refusal = CODWALET_TABLE_SHORT, .needed = needed};
+    buffers lent = guards(), after = guards();
+    memset(after.mask, 0, PLACES);
+    codwalet_outline made =
+        codwalet_footprint(h->map.bytes, h->map.length, h->current, 0, lent.mask, 64, lent.table, entries);
+    SAME(made, due);
+    SAME(lent.mask, after.mask);
+    SAME(lent.table, after.table);
+}
+
+static void footprints_by_hand(void)
+{
+    for (size_t i = 0; i < sizeof footprints / sizeof footprints[0]; i++) {
+        checked = footprints[i].name;
+        holdings h = hold_row(footprints[i].licences);
+        size_t entries = footprints[i].entries;
+        made_footprint(&h, footprints[i].mask, entries, PLACES, entries);
+        made_footprint(&h, footprints[i].mask, entries, 64, 64);
+        refused_footprint(&h.map, h.current, PLACES - 1, 64, CODWALET_MASK_SHORT);
+        refused_footprint(&h.map, h.current, 0, 0, CODWALET_MASK_SHORT);
+        for (size_t n = 0; n < entries; n++)
+            short_table(&h, n, entries);
+    }
+}
+
+/* NULL with length 0 is an empty buffer. */
+static void empty_buffers(void)
+{
+    holdings h = hold_row(2);
+    const codwalet_outline short_mask = {.refusal = CODWALET_MASK_SHORT}, no_map = {.refusal = CODWALET_MAP_ENDS};
+    const codwalet_outline area = {.area = OUTLINED};
+    const uint8_t due[PLACES] = {0, 0, 1, 1, 0};
+    uint8_t mask[PLACES];
+    codwalet_outline made = codwalet_footprint(h.map.bytes, h.map.length, h.current, 0, NULL, 0, NULL, 0);
+    SAME(made, short_mask);
+    made = codwalet_footprint(h.map.bytes, h.map.length, h.current, 0, mask, PLACES, NULL, 0);
+    SAME(made, area);
+    SAME(mask, due);
+    made = codwalet_footprint(NULL, 0, h.current, 0, NULL, 0, NULL, 0);
+    SAME(made, no_map);
+    EQUAL(codwalet_check_map(NULL, 0), CODWALET_MAP_ENDS);
+    EQUAL(codwalet_look_up(NULL, 0, OUTLINED).refusal, CODWALET_MAP_ENDS);
+    EQUAL(codwalet_coverage(NULL, 0, h.current, OUTLINED).refusal, CODWALET_MAP_ENDS);
+    EQUAL(codwalet_blocks(NULL, 0, h.current, OUTLINED).refusal, CODWALET_MAP_ENDS);
+    EQUAL(codwalet_propose(NULL, 0, h.current, 0).refusal, CODWALET_MAP_ENDS);
+}
+
+static const struct {
+    const char *name;
+    void (*run)(void);
+} parts[] = {
+    {"grants and cancellations", grants_and_cancellations},
+    {"refusals of the register", refusals_of_the_register},
+    {"an accepted map", accepted_map},
+    {"a map with gaps", map_with_gaps},
+    {"refused maps", refused_maps},
+    {"coverage of boxes", coverage_of_boxes},
+    {"coverage in force", coverage_in_force},
+    {"blocks of an area", blocks_of_an_area},
+    {"proposals by hand", proposals_by_hand},
+    {"many partial areas", many_partial_areas},
+    {"footprints by hand", footprints_by_hand},
+    {"empty buffers", empty_buffers},
+};
+
+int main(void)
+{
+    for (size_t i = 0; i < sizeof parts / sizeof parts[0]; i++) {
+        checked = parts[i].name;
+        parts[i].run();
+    }
+    printf("interface: %u checks\n", checks);
+    return 0;
+}

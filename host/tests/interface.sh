@@ -1,0 +1,12 @@
+#!/bin/sh
+# Compiles the C test of the interface against the engine's archive and runs it. Where there is a C++ compiler, the
+# header must compile as C++ too.
+set -e
+cd "$(dirname "$0")/../.."
+mkdir -p target/interface
+cc -std=c11 -O2 -Wall -Wextra -Werror -pedantic -I host/include host/tests/interface.c target/staticlib/libabi.a \
+    -o target/interface/interface
+target/interface/interface
+if command -v c++ > /dev/null; then
+    c++ -std=c++17 -Wall -Wextra -Werror -pedantic -fsyntax-only -x c++ host/include/codwalet.h
+fi
