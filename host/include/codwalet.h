@@ -2,10 +2,11 @@
  * Codwalet's C interface: the functions of crates/abi, in the archive target/staticlib/libabi.a (x86-64; it needs no other library).
  *
  * Every function takes any input and returns: no map, register, licence, number, draw or buffer makes one fault or hang.
- * Nothing is allocated and nothing is kept. Structs are passed and returned by value and belong to the caller. Of a map, a mask
- * and a table the caller keeps ownership; a function reads or writes them only until it returns. A pointer must be valid for the
- * length given with it, and a mask or table must not overlap the map; NULL with length 0 is an empty buffer.
- * A footprint needs some 128 KiB of stack, every other call less than 32 KiB.
+ * Nothing is allocated and nothing is kept, so calls may be made from several threads at once. Structs are passed and returned by
+ * value and belong to the caller. Of a map, a mask and a table the caller keeps ownership; a function reads or writes them only
+ * until it returns. A pointer must be valid for the length given with it, in bytes or, of a table, in entries, and the map, the mask
+ * and the table of a call must not overlap; NULL with length 0 is an empty buffer.
+ * A footprint takes less than 128 KiB of stack, every other call less than 32 KiB (measured, host/tests/stack.c).
  *
  * The structs have no padding, and each field has a value in every answer: 0 where the answer has nothing to say.
  * Coordinates are in hundredths of an arc second; degrees south and west are negative.

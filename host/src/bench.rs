@@ -1,6 +1,7 @@
 //! Times of the engine beside those of the same work written directly in Rust, in one run. Both get the same bytes, and
 //! buffers in the same state, by turns. Each time is the least of several runs, as whatever else the machine does only
-//! adds to it. The answers must agree.
+//! adds to it. Runs are made at several alignments of the stack, as a copy takes longer where it crosses cache lines.
+//! The answers must agree.
 
 mod holdings;
 mod plain;
@@ -161,6 +162,24 @@ fn timed<T>(call: impl FnOnce() -> T) -> (Duration, T) {
     (start.elapsed(), answer)
 }
 
+/// A run with the stack at one of the four places that it can have in a cache line of 64 bytes.
+fn aligned<T>(turn: u32, run: &dyn Fn() -> T) -> T {
+    match turn % 4 {
+        0 => below::<16, T>(run),
+        1 => below::<32, T>(run),
+        2 => below::<48, T>(run),
+        _ => below::<64, T>(run),
+    }
+}
+
+/// A run below so many bytes of stack that nothing uses.
+#[inline(never)]
+fn below<const BYTES: usize, T>(run: &dyn Fn() -> T) -> T {
+    let unused = [0u8; BYTES];
+    black_box(&unused);
+    run()
+}
+
 /// The least times of alternating runs, where the answers agree.
 fn compare<T: PartialEq>(
     work: &'static str,
@@ -171,8 +190,8 @@ fn compare<T: PartialEq>(
     let start = Instant::now();
     let mut runs = 0;
     while runs < RUNS || start.elapsed() < SPAN {
-        let (engine_time, engine_answer) = engine();
-        let (plain_time, plain_answer) = plain();
+        let (engine_time, engine_answer) = aligned(runs, &engine);
+        let (plain_time, plain_answer) = aligned(runs, &plain);
         if engine_answer != plain_answer {
             return Err(Disagreement { work });
         }

@@ -1,12 +1,14 @@
 #!/bin/sh
-# Compiles the C test of the interface against the engine's archive and runs it. Where there is a C++ compiler, the
+# Compiles the C tests of the interface against the engine's archive and runs them. Where there is a C++ compiler, the
 # header must compile as C++ too.
 set -e
 cd "$(dirname "$0")/../.."
 mkdir -p target/interface
-cc -std=c11 -O2 -Wall -Wextra -Werror -pedantic -I host/include host/tests/interface.c target/staticlib/libabi.a \
-    -o target/interface/interface
-target/interface/interface
+for test in interface stack; do
+    cc -std=c11 -O2 -Wall -Wextra -Werror -pedantic -I host/include "host/tests/$test.c" target/staticlib/libabi.a \
+        -o "target/interface/$test"
+    "target/interface/$test"
+done
 if command -v c++ > /dev/null; then
     c++ -std=c++17 -Wall -Wextra -Werror -pedantic -fsyntax-only -x c++ host/include/codwalet.h
 fi
