@@ -24,8 +24,13 @@ pub fn grouped(number: u64) -> String {
 }
 
 /// A count and what is counted, in the plural where it is due.
-pub fn counted(count: u64, one: &str, more: &str) -> String {
-    format!("{} {}", grouped(count), if count == 1 { one } else { more })
+pub fn counted(count: u64, one: &'static str, more: &'static str) -> String {
+    format!("{} {}", grouped(count), word_for(count, one, more))
+}
+
+/// The word for one or more of something.
+pub fn word_for(count: u64, one: &'static str, more: &'static str) -> &'static str {
+    if count == 1 { one } else { more }
 }
 
 /// How many areas and bytes a map has.
@@ -42,5 +47,10 @@ mod tests {
     fn thousands_have_commas() {
         let shown = [0, 7, 999, 1_000, 12_345, 123_456, 1_234_567].map(grouped);
         assert_eq!(shown, ["0", "7", "999", "1,000", "12,345", "123,456", "1,234,567"]);
+    }
+
+    #[test]
+    fn one_is_singular() {
+        assert_eq!([0, 1, 2_000].map(|count| counted(count, "cell", "cells")), ["0 cells", "1 cell", "2,000 cells"]);
     }
 }

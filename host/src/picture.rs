@@ -61,10 +61,10 @@ impl Mark {
     }
 }
 
-/// The cells with a mark.
+/// The cells with a mark, and their people.
 #[derive(Clone, Copy, Debug, PartialEq, Eq)]
 pub struct Count {
-    pub cells: usize,
+    pub cells: u64,
     pub people: u64,
 }
 

@@ -92,8 +92,8 @@ fn a_terminal_shows_each_mark() {
         "+-----+",
         "|..+-.|",
         "+-----+",
-        "+       1 cells           4 people  last ring, in the footprint",
-        "-       1 cells           3 people  last ring, left out",
+        "+       1 cell            4 people  last ring, in the footprint",
+        "-       1 cell            3 people  last ring, left out",
         ".       3 cells          13 people  not in the footprint",
     ];
     assert_eq!(terminal(&draw(ONE_ROW)), lines);

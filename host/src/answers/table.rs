@@ -1,6 +1,6 @@
 //! Answers as a table: the plan's line, the call and what came of it. A proposal and a footprint have more lines below.
 
-use super::{counted, grouped, size_words};
+use super::{counted, grouped, size_words, word_for};
 use crate::engine::{Blocks, Gets, Given, Kind, Part, Proposal, Weighted};
 use crate::picture::{Drawing, terminal};
 use crate::plan::run::{Answer, Outcome};
@@ -46,7 +46,9 @@ fn first_line(answer: &Answer) -> String {
             let done = if granted { "granted" } else { "cancelled" };
             format!("{done}; {} in force", counted(*count as u64, "licence", "licences"))
         }
-        Outcome::Coverage { people, in_map } => format!("{} people{}", grouped(people.0), lacking(*in_map)),
+        Outcome::Coverage { people, in_map } => {
+            format!("{}{}", counted(people.0, "person", "people"), lacking(*in_map))
+        }
         Outcome::Blocks { blocks, in_map } => format!("{}{}", blocks_words(blocks), lacking(*in_map)),
         Outcome::Proposal(proposal) => kind_words(proposal),
         Outcome::Footprint(drawing) => footprint_words(drawing, &answer.step.call),
@@ -82,7 +84,7 @@ fn kind_words(proposal: &Proposal) -> String {
 fn proposal_lines(proposal: &Proposal) -> Vec<String> {
     let (target, white_space) = (grouped(proposal.target.0), grouped(proposal.white_space.0));
     let width = target.len().max(white_space.len());
-    let tied = if proposal.tied == 1 { "area" } else { "areas" };
+    let tied = word_for(proposal.tied, "area", "areas");
     let mut lines = vec![
         format!("T            {target:>width$} weighted MHz-pops"),
         format!("white space  {white_space:>width$} weighted MHz-pops"),
@@ -111,7 +113,8 @@ fn footprint_words(drawing: &Drawing, call: &Call) -> String {
         Call::Footprint(_, Some(file)) => format!("; drawn in {}", file.display()),
         _ => String::new(),
     };
-    let (cells, of_cells) = (grouped(footprint.cells as u64), grouped(cells as u64));
+    let (in_it, cells) = (grouped(footprint.cells), counted(cells, "cell", "cells"));
+    let carry = word_for(footprint.cells, "carries", "carry");
     let (carries, share) = (grouped(drawing.carries().0), grouped(drawing.share.0));
-    format!("area {}: {cells} of {of_cells} cells carry {carries} for a share of {share}{written}", drawing.area)
+    format!("area {}: {in_it} of {cells} {carry} {carries} for a share of {share}{written}", drawing.area)
 }

@@ -4,7 +4,7 @@ mod boxes;
 mod legend;
 
 use super::{Drawing, Mark};
-use crate::answers::grouped;
+use crate::answers::{counted, grouped};
 use std::fmt::Display;
 
 /// Lengths in the SVG's units.
@@ -59,11 +59,11 @@ fn title(drawing: &Drawing) -> Vec<String> {
     let heading = format!("Footprint in area {}", drawing.area);
     let share = format!("The share is {} weighted MHz-pops.", grouped(drawing.share.0));
     let carries = format!(
-        "The footprint carries {}: {} people in {} of {} cells.",
+        "The footprint carries {}: {} in {} of {}.",
         grouped(drawing.carries().0),
-        grouped(footprint.people),
-        grouped(footprint.cells as u64),
-        grouped(cells as u64)
+        counted(footprint.people, "person", "people"),
+        grouped(footprint.cells),
+        counted(cells, "cell", "cells")
     );
     let ink = format!("fill=\"{INK}\"");
     vec![

@@ -1,7 +1,7 @@
 //! A footprint for a terminal: a character for each place, and a legend.
 
 use super::{Drawing, Mark, NO_RING};
-use crate::answers::grouped;
+use crate::answers::{grouped, word_for};
 
 /// The picture's lines.
 pub fn terminal(drawing: &Drawing) -> Vec<String> {
@@ -14,8 +14,9 @@ pub fn terminal(drawing: &Drawing) -> Vec<String> {
     }
     lines.push(edge);
     for (mark, count) in drawing.legend() {
-        let (cells, people) = (grouped(count.cells as u64), grouped(count.people));
-        lines.push(format!("{}  {cells:>6} cells {people:>11} people  {}", symbol(mark), mark.words()));
+        let cells = format!("{:>6} {:5}", grouped(count.cells), word_for(count.cells, "cell", "cells"));
+        let people = format!("{:>11} {:6}", grouped(count.people), word_for(count.people, "person", "people"));
+        lines.push(format!("{}  {cells} {people}  {}", symbol(mark), mark.words()));
     }
     if drawing.last_ring.is_none() {
         lines.push(NO_RING.to_string());

@@ -1,7 +1,7 @@
 //! The legend below the grid.
 
 use super::{BOX, HATCH, INK, MARGIN, RING, colours, is_ring, text};
-use crate::answers::grouped;
+use crate::answers::counted;
 use crate::engine::Ground;
 use crate::picture::{Drawing, Mark, NO_RING};
 
@@ -28,8 +28,8 @@ impl Entry {
 
 pub(super) fn entries(drawing: &Drawing) -> Vec<Entry> {
     let marks = drawing.legend().map(|(mark, count)| {
-        let (cells, people) = (grouped(count.cells as u64), grouped(count.people));
-        Entry::new(Sign::Mark(mark), format!("{}: {cells} cells, {people} people", mark.words()))
+        let (cells, people) = (counted(count.cells, "cell", "cells"), counted(count.people, "person", "people"));
+        Entry::new(Sign::Mark(mark), format!("{}: {cells}, {people}", mark.words()))
     });
     let mut entries: Vec<Entry> = marks.collect();
     let boxes = call_signs(drawing, |ground| matches!(ground, Ground::Box(_)));
