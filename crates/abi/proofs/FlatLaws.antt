@@ -13,15 +13,12 @@ use Rattle.proposal.specs.declared.AreaAnswer.{AreaAnswer}
 use Rattle.proposal.specs.declared.Proposal as proposed
 use Rattle.proposal.specs.Answer as proposal
 use Rattle.proposal.specs.Contracts.{areaMeans, refusalNumber, kindNumber, means, blank, Answers}
-use Rattle.footprint.specs.declared.FootprintAnswer.{FootprintAnswer}
 use Rattle.footprint.specs.Footprint.{Footprint}
-use Rattle.footprint.specs.Contracts.{FootprintDone}
-use Rattle.footprint.specs.Contracts.{means as replies}
+use Rattle.footprint.specs.Contracts.{Reply, Leaves}
 use Rattle.abi.specs.declared.Given.{Given}
 use Rattle.abi.specs.declared.FlatProposal.{FlatProposal}
-use Rattle.abi.specs.declared.Outline.{Outline}
-use Rattle.abi.specs.Flat.{flatFound, flatGiven, noneGiven, flatProposal, flatOutline}
-use Rattle.abi.specs.Contracts.{FoundDone, OutlineDone}
+use Rattle.abi.specs.Flat.{flatFound, flatGiven, noneGiven, flatProposal}
+use Rattle.abi.specs.Contracts.{FoundDone}
 
 -- ---- an area that is looked up
 
@@ -104,6 +101,7 @@ flat-answers {p} {r} d {given = given} ne ke ge =
 
 -- ---- the footprint
 
-pub outline-done : {o : Footprint} {a : FootprintAnswer} {r : Outline} {mask after table entries : List ℕ}
-    → FootprintDone o a mask after table entries → r ≡ flatOutline (replies a) → OutlineDone o r mask after table entries
-outline-done d e = record { answer = e ∙ ap flatOutline (d .answer); bytes = d .bytes; size = d .size; unused = d .unused }
+-- an answer that means the same
+pub same-reply : {o : Footprint} {r s : Reply} {mask after table entries : List ℕ} → Leaves o r mask after table entries → s ≡ r
+    → Leaves o s mask after table entries
+same-reply d e = record { answer = e ∙ d .answer; bytes = d .bytes; size = d .size; unused = d .unused }

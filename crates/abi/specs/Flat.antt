@@ -86,5 +86,5 @@ flatProposal p = record {
 
 -- ---- "The footprint": the refusal, the area's number, and the count needed at 8
 
-abbrev pub flatOutline : Reply → Outline
-flatOutline r = record { refusal = r .refused; area = r .area; needed = r .needed }
+abbrev pub outlineMeans : Outline → Reply
+outlineMeans r = record { refused = r .refusal; needed = r .needed; area = r .area }

@@ -22,7 +22,7 @@ ghost use Rattle.proposal.specs.Answer.{proposalOn};
 ghost use Rattle.proposal.specs.Contracts.{getsMeans, areaMeans};
 ghost use Rattle.footprint.specs.Footprint.{footprintOn};
 ghost use Rattle.footprint.specs.Contracts.{means};
-ghost use Rattle.abi.specs.Flat.{noArea, flatCovered, flatHeld, getsNumber, getsAmount, flatGiven, flatProposal, flatOutline};
+ghost use Rattle.abi.specs.Flat.{noArea, flatCovered, flatHeld, getsNumber, getsAmount, flatGiven, flatProposal, outlineMeans};
 ghost use Rattle.abi.specs.Contracts.{FoundDone, OutlineDone};
 
 // An area of a map: its head, its population, and where its rows stand. All 0 where the map is refused or lacks the number.
@@ -302,7 +302,7 @@ pub extern "C" fn codwalet_footprint(
 
 // The answer of a footprint in numbers.
 fn outline_of(answer: FootprintAnswer) -> Outline
-    ensures { λ r. ⌜ r ≡ flatOutline (means answer) ⌝ }
+    ensures { λ r. ⌜ outlineMeans r ≡ means answer ⌝ }
 {
     Outline {
         refusal: answer.refusal(),

@@ -49,8 +49,12 @@ usedBy (made number places used cells) = used
 
 -- "What a contract pins": the answer and every byte of the mask are those of the definitions; the table keeps its length, and only its
 -- used entries are left free
-pub record FootprintDone (o : Footprint) (r : FootprintAnswer) (mask after table entries : List ℕ) : Type 0 where
-  pub answer : means r ≡ replyOf o
+pub record Leaves (o : Footprint) (r : Reply) (mask after table entries : List ℕ) : Type 0 where
+  pub answer : r ≡ replyOf o
   pub bytes : after ≡ maskAfter o mask
   pub size : length entries ≡ length table
   pub unused : drop (usedBy o) entries ≡ drop (usedBy o) table
+
+-- the same of the code's answer
+abbrev pub FootprintDone : (o : Footprint) (r : FootprintAnswer) (mask after table entries : List ℕ) → Type 0
+FootprintDone o r mask after table entries = Leaves o (means r) mask after table entries

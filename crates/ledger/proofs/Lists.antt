@@ -11,11 +11,10 @@ use Rattle.map.specs.Reading.{good}
 use Rattle.map.specs.Format.{Area, readMap}
 use Rattle.register.specs.declared.Licence.{Licence}
 use Rattle.register.specs.declared.Register.{Register}
-use Rattle.register.specs.declared.Granted.{Granted}
-use Rattle.register.specs.declared.Cancelled.{Cancelled}
+use Rattle.register.specs.declared.Step as stepped
 use Rattle.register.specs.Licences.{licenceOf, freePlace, inForce, strike}
 use Rattle.register.specs.Rules.{grantNumber, cancelNumber, limit, grantRule, cancelRule}
-use Rattle.register.specs.Contracts.{GrantDone, CancelDone}
+use Rattle.register.specs.Contracts.{GrantStep, CancelStep}
 use Rattle.register.specs.Sums.{SameLicences, signs}
 use Rattle.lists.specs.Sums.{total}
 use Rattle.register.proofs.Laws.{sign-is, formed-sign, accepted-formed, accepted-new, accepted-room}
@@ -42,31 +41,33 @@ use Rattle.proposal.specs.Demand as demand
 use Rattle.proposal.proofs.Theorems.{refused-by, right}
 use Rattle.footprint.specs.Footprint.{Footprint}
 use Rattle.footprint.specs.Contracts.{FootprintDone}
+use Rattle.footprint.specs.Contracts.{means as replies}
 use Rattle.ledger.specs.Calls.{Call, grant, cancel, propose, footprint, Outcome, Made, calls}
 use Rattle.ledger.specs.Ledger.{linesAfter, ledger}
 use Rattle.ledger.specs.Runs.{Empties, Step, Run, done, step}
 use Rattle.ledger.specs.Right.{ProposalRight, Right, AllRight, number, Sound, Holds, Registers, ListClaim}
 use Rattle.ledger.proofs.Outlines.{outline-on-lines, footprint-right}
 
-abbrev Same : Register → List Licence → Type 0
+-- the register's licences in force are the lines
+abbrev pub Same : Register → List Licence → Type 0
 Same r lines = SameLicences (inForce (r .places)) lines
 
 -- ---- a call keeps the register and the ledger together
 
-grant-keeps : (r : Register) (lines : List Licence) (l : Licence) (g : Granted) →
-    GrantDone r l g → Same r lines → Same (g .next) (linesAfter lines (grant l))
+pub grant-keeps : (r : Register) (lines : List Licence) (l : Licence) (g : stepped.Step) →
+    GrantStep r l g → Same r lines → Same (g .next) (linesAfter lines (grant l))
 grant-keeps r lines l g d same f =
-    let e : grantNumber (g .answer) ≡ grantRule lines l = d .number ∙ same-grant (inForce (r .places)) lines same l in
+    let e : g .refusal ≡ grantRule lines l = d .number ∙ same-grant (inForce (r .places)) lines same l in
     by-test (eqb (grantRule lines l) 0)
     (λ t.
     let z = eqb-true (grantRule lines l) 0 t in
     simp t (placed-total (formed-sign l (accepted-formed lines l z)) (d .accepted (e ∙ z)) f ∙ ap (λ n. f l + n) (same f)))
     (λ t. simp (t, d .refused (λ z. eqb-false (grantRule lines l) 0 t (sym e ∙ z))) (same f))
 
-cancel-keeps : (r : Register) (lines : List Licence) (s : ℕ) (k : Cancelled) →
-    CancelDone r s k → Same r lines → Same (k .next) (linesAfter lines (cancel s))
+pub cancel-keeps : (r : Register) (lines : List Licence) (s : ℕ) (k : stepped.Step) →
+    CancelStep r s k → Same r lines → Same (k .next) (linesAfter lines (cancel s))
 cancel-keeps r lines s k d same f =
-    let e : cancelNumber (k .answer) ≡ cancelRule lines s = d .number ∙ same-cancel (inForce (r .places)) lines same s in
+    let e : k .refusal ≡ cancelRule lines s = d .number ∙ same-cancel (inForce (r .places)) lines same s in
     by-test (eqb (cancelRule lines s) 0)
     (λ t.
     let z = e ∙ eqb-true (cancelRule lines s) 0 t in
@@ -75,13 +76,13 @@ cancel-keeps r lines s k d same f =
 
 same-step : (map : List ℕ) (r : Register) (lines : List Licence) → Same r lines →
     (c : Call) (o : Outcome c) (next : Register) → Step map r c o next → Same next (linesAfter lines c)
-same-step map r lines same (grant l) o next d = grant-keeps r lines l (record { next = next; answer = o }) d same
-same-step map r lines same (cancel s) o next d = cancel-keeps r lines s (record { next = next; answer = o }) d same
+same-step map r lines same (grant l) o next d = grant-keeps r lines l (record { next = next; refusal = grantNumber o }) d same
+same-step map r lines same (cancel s) o next d = cancel-keeps r lines s (record { next = next; refusal = cancelNumber o }) d same
 same-step map r lines same (propose draw) o next d = subst (λ (x : Register). Same x lines) (sym (d .1)) same
 same-step map r lines same (footprint draw mask table) o next d = subst (λ (x : Register). Same x lines) (sym (d .1)) same
 
 -- an empty register has no licence in force
-empty-same : (r : Register) → Empties r → Same r []
+pub empty-same : (r : Register) → Empties r → Same r []
 empty-same r e f = simp e (go limit)
   where
     go : (n : ℕ) → total f (inForce (replicate n freePlace)) ≡ 0
@@ -91,7 +92,7 @@ empty-same r e f = simp e (go limit)
 -- ---- a proposal counts just the ledger's lines
 
 -- a proposal that is not refused has at most 20 partial areas
-few-partial : (areas : List Holding) (draw : ℕ) → proposal areas draw .refused ≡ 0 → length (partials areas) ≤ 20
+pub few-partial : (areas : List Holding) (draw : ℕ) → proposal areas draw .refused ≡ 0 → length (partials areas) ≤ 20
 few-partial areas draw z =
     by-test (ltb 20 (length (partials areas)))
     (λ t. absurd (let e : 12 ≡ 0 = sym (simp t at (refused-by areas draw)) ∙ z in omega arith))
@@ -110,7 +111,7 @@ proposal-right areas lines draw p a =
     }
 
 -- the map is accepted, and the register holds the ledger's lines
-on-lines : (map : List ℕ) (areas : List Area) (e : ℕ) → readMap map ≡ good areas e →
+pub on-lines : (map : List ℕ) (areas : List Area) (e : ℕ) → readMap map ≡ good areas e →
     (r : Register) (lines : List Licence) → Same r lines → (draw : ℕ) →
     proposalOn (readMap map) (inForce (r .places)) draw ≡ proposal (holdingsOf lines areas) draw
 unfolding proposalOn
@@ -129,7 +130,7 @@ module _ (map : List ℕ) (areas : List Area) (e : ℕ) (reads : readMap map ≡
       proposal-right areas lines draw o
       (subst (λ (p : Proposal). Answers p o) (on-lines map areas e reads r lines same draw) (d .0 .post))
   right-step r lines same (footprint draw mask table) o next d =
-      footprint-right map areas e reads lines draw mask table o
+      footprint-right map areas e reads lines draw mask table (replies (o .answer)) (o .mask) (o .table)
       (subst (λ (x : Footprint). FootprintDone x (o .answer) mask (o .mask) table (o .table))
       (outline-on-lines map areas e reads (inForce (r .places)) lines same draw (length mask) (length table)) (d .0 .post))
 
@@ -142,7 +143,7 @@ refused-keeps map r (footprint draw mask table) o next d z = d .1
 
 -- ---- the ledger's own lines
 
-sound-after : (lines : List Licence) (c : Call) → Sound lines → Sound (linesAfter lines c)
+pub sound-after : (lines : List Licence) (c : Call) → Sound lines → Sound (linesAfter lines c)
 sound-after lines (grant l) p =
     by-test (eqb (grantRule lines l) 0)
     (λ t.
@@ -170,7 +171,7 @@ sound-from lines (c ∷ cs) p = sound-from (linesAfter lines c) cs (sound-after 
 -- ---- a run
 
 -- what is sound of the lines is sound of the same licences in another order
-same-sound : (xs ys : List Licence) → SameLicences xs ys → Sound ys → Sound xs
+pub same-sound : (xs ys : List Licence) → SameLicences xs ys → Sound ys → Sound xs
 same-sound xs ys same p =
     let n = same-length xs ys same in
     let few = p .few in
@@ -183,7 +184,7 @@ last-holds {r = r} lines done same p = record { same = same; sound = same-sound 
 last-holds {map} {r} lines (step {next = next} m s run) same p =
     last-holds (linesAfter lines (m .call)) run (same-step map r lines same (m .call) (m .outcome) next s) (sound-after lines (m .call) p)
 
-none-sound : Sound []
+pub none-sound : Sound []
 none-sound = record { once = λ s. zero-le; few = zero-le }
 
 pub list-holds : {map : List ℕ} (first last : Register) (made : List Made) → Empties first → Run map first made last →

@@ -22,12 +22,11 @@ use Rattle.ring.specs.Ring.{Places, shown}
 use Rattle.rounds.specs.Footprint as outline
 use Rattle.rounds.proofs.Theorems.{right-same}
 use Rattle.footprint.specs.Footprint.{Footprint, refused, short, partArea, coveredCells, footprintBy, footprintOn}
-use Rattle.footprint.specs.Contracts.{Reply, means, FootprintDone}
+use Rattle.footprint.specs.Contracts.{Reply, Leaves}
 use Rattle.footprint.proofs.ShareLaws.{OneShare, located-self}
 use Rattle.footprint.proofs.SameLaws.{same-footprint}
 use Rattle.footprint.proofs.CaseLaws.{Case, refuses, lacks, makes, cases}
 use Rattle.footprint.proofs.OutlineLaws.{outline-right}
-use Rattle.ledger.specs.Calls.{Outline}
 use Rattle.ledger.specs.Right.{Partial, FootprintRight}
 
 -- the map is accepted, and the licences are the ledger's lines
@@ -52,7 +51,7 @@ past-front cells n rest =
     ap (λ (k : ℕ). drop k (front ++ rest)) (sym (each-below (λ j. flag (cells j)) n)) ∙ drop-append-seam front rest
 
 module _ (s : List ℕ) (areas : List Area) (e : ℕ) (reads : readMap s ≡ good areas e) (lines : List Licence) (draw : ℕ)
-    (mask table : List ℕ) (o : Outline)
+    (mask table : List ℕ) (r : Reply) (after entries : List ℕ)
   where
     abbrev p : Proposal
     p = proposal (holdingsOf lines areas) draw
@@ -61,7 +60,7 @@ module _ (s : List ℕ) (areas : List Area) (e : ℕ) (reads : readMap s ≡ goo
     comes = footprintBy areas lines (length mask) (length table) p
 
     abbrev Done : Footprint → Type 0
-    Done x = FootprintDone x (o .answer) mask (o .mask) table (o .table)
+    Done x = Leaves x r mask after table entries
 
     h : MapHolds s areas
     h = accepted s areas e reads
@@ -78,10 +77,10 @@ module _ (s : List ℕ) (areas : List Area) (e : ℕ) (reads : readMap s ≡ goo
     holds : (q : OneShare areas lines p) → AreaHolds s (q .area)
     holds q = locates s (q .area .head .number) areas (h .each) (q .area) (partial q .located) .1
 
-    by-case : Done comes → Case areas lines draw (length mask) (length table) comes → FootprintRight areas lines draw mask table o
+    by-case : Done comes → Case areas lines draw (length mask) (length table) comes → FootprintRight areas lines draw mask table r after entries
     by-case d (refuses n z k q) =
         let x = subst Done q d in
-        let is : means (o .answer) .refused ≡ n = ap (λ (r : Reply). r .refused) (x .answer) in
+        let is : r .refused ≡ n = ap (λ (w : Reply). w .refused) (x .answer) in
         record {
           answer = d;
           table-left = λ _. x .unused;
@@ -91,8 +90,8 @@ module _ (s : List ℕ) (areas : List Area) (e : ℕ) (reads : readMap s ≡ goo
         }
     by-case d (lacks q room few eq) =
         let x = subst Done eq d in
-        let is : means (o .answer) .refused ≡ 8 = ap (λ (r : Reply). r .refused) (x .answer) in
-        let needs = ap (λ (r : Reply). r .needed) (x .answer) in
+        let is : r .refused ≡ 8 = ap (λ (w : Reply). w .refused) (x .answer) in
+        let needs = ap (λ (w : Reply). w .needed) (x .answer) in
         record {
           answer = d;
           table-left = λ _. x .unused;
@@ -107,7 +106,7 @@ module _ (s : List ℕ) (areas : List Area) (e : ℕ) (reads : readMap s ≡ goo
         }
     by-case d (makes q room eq) =
         let x = subst Done eq d in
-        let is : means (o .answer) .refused ≡ 0 = ap (λ (r : Reply). r .refused) (x .answer) in
+        let is : r .refused ≡ 0 = ap (λ (w : Reply). w .refused) (x .answer) in
         let n = outline.places (partArea (q .area)) in
         let cells = outline.footprint (partArea (q .area)) (q .share) (coveredCells lines (q .area)) in
         record {
@@ -117,13 +116,13 @@ module _ (s : List ℕ) (areas : List Area) (e : ℕ) (reads : readMap s ≡ goo
           short = λ y. absurd (let z : _≡_ {A = ℕ} 0 8 = sym is ∙ y in omega arith);
           carries = λ _. record {
             of = partial q;
-            number = ap (λ (r : Reply). r .area) (x .answer);
-            right = right-same (partArea (q .area)) (q .share) (coveredCells lines (q .area)) cells (shown (o .mask))
+            number = ap (λ (w : Reply). w .area) (x .answer);
+            right = right-same (partArea (q .area)) (q .share) (coveredCells lines (q .area)) cells (shown after)
                 (λ i k. ap (λ (m : List ℕ). shown m i) (x .bytes) ∙ shown-front cells n (drop n mask) i k)
                 (outline-right (holds q) lines (q .share) (q .above, q .below));
             past = ap (drop n) (x .bytes) ∙ past-front cells n (drop n mask);
           };
         }
 
-    pub footprint-right : Done comes → FootprintRight areas lines draw mask table o
+    pub footprint-right : Done comes → FootprintRight areas lines draw mask table r after entries
     footprint-right d = by-case d (cases h lines draw (length mask) (length table))

@@ -22,8 +22,9 @@ use Rattle.ring.specs.Ring.{shown}
 use Rattle.rounds.specs.Demand as outline
 use Rattle.rounds.specs.Footprint.{places, needed}
 use Rattle.footprint.specs.Footprint.{partArea, coveredCells, shares, sharedIn, footprintBy}
-use Rattle.footprint.specs.Contracts as replied
-use Rattle.ledger.specs.Calls.{Call, grant, cancel, propose, footprint, Outline, Outcome, Made, calls}
+use Rattle.footprint.specs.Contracts.{Reply, Leaves}
+use Rattle.footprint.specs.Contracts.{means as replies}
+use Rattle.ledger.specs.Calls.{Call, grant, cancel, propose, footprint, Outcome, Made, calls}
 use Rattle.ledger.specs.Ledger.{linesAfter, ledger}
 use Rattle.ledger.specs.Runs.{Run, done, step}
 
@@ -46,39 +47,42 @@ pub record Partial (areas : List Area) (lines : List Licence) (draw : ℕ) : Typ
   pub shared : sharedIn (proposal (holdingsOf lines areas) draw .areas) ≡ shares (area .head .number) share
 
 -- "the bytes it leaves": at 8 the count needed comes, the area's bytes are 0 and the others stay
-pub record TooShort (areas : List Area) (lines : List Licence) (draw : ℕ) (mask table : List ℕ) (o : Outline) : Type 0 where
+pub record TooShort (areas : List Area) (lines : List Licence) (draw : ℕ) (mask table : List ℕ) (r : Reply) (after : List ℕ)
+    : Type 0 where
   pub of : Partial areas lines draw
-  pub count : replied.means (o .answer) .needed ≡ needed (partArea (of .area)) (of .share) (coveredCells lines (of .area))
-  pub lacks : length table < replied.means (o .answer) .needed
-  pub zeros : o .mask ≡ replicate (places (partArea (of .area))) 0 ++ drop (places (partArea (of .area))) mask
+  pub count : r .needed ≡ needed (partArea (of .area)) (of .share) (coveredCells lines (of .area))
+  pub lacks : length table < r .needed
+  pub zeros : after ≡ replicate (places (partArea (of .area))) 0 ++ drop (places (partArea (of .area))) mask
 
 -- a footprint that is made: the mask marks a set of cells of the partial area that carries at least the share, exactly the share without
 -- a last ring, and no more than any choice from the last ring that keeps the share
-pub record Carries (areas : List Area) (lines : List Licence) (draw : ℕ) (mask : List ℕ) (o : Outline) : Type 0 where
+pub record Carries (areas : List Area) (lines : List Licence) (draw : ℕ) (mask : List ℕ) (r : Reply) (after : List ℕ) : Type 0 where
   pub of : Partial areas lines draw
-  pub number : replied.means (o .answer) .area ≡ of .area .head .number
-  pub right : outline.Right (partArea (of .area)) (of .share) (coveredCells lines (of .area)) (shown (o .mask))
-  pub past : drop (places (partArea (of .area))) (o .mask) ≡ drop (places (partArea (of .area))) mask
+  pub number : r .area ≡ of .area .head .number
+  pub right : outline.Right (partArea (of .area)) (of .share) (coveredCells lines (of .area)) (shown after)
+  pub past : drop (places (partArea (of .area))) after ≡ drop (places (partArea (of .area))) mask
 
 -- "In a list, the licences in force are the ledger's lines before the call; c, S, T, share and F come from them": what is claimed of a
--- footprint over a map with these areas
-pub record FootprintRight (areas : List Area) (lines : List Licence) (draw : ℕ) (mask table : List ℕ) (o : Outline) : Type 0 where
+-- footprint over a map with these areas, by its reply and what it leaves of the mask and the table
+pub record FootprintRight (areas : List Area) (lines : List Licence) (draw : ℕ) (mask table : List ℕ) (r : Reply)
+    (after entries : List ℕ) : Type 0 where
   -- it is document 01's footprint for the lines: the answer, every byte of the mask, and every entry of the table that is not used
-  pub answer : replied.FootprintDone (footprintBy areas lines (length mask) (length table) (proposal (holdingsOf lines areas) draw))
-      (o .answer) mask (o .mask) table (o .table)
+  pub answer : Leaves (footprintBy areas lines (length mask) (length table) (proposal (holdingsOf lines areas) draw))
+      r mask after table entries
   -- refused, it leaves the table, and the mask too save at 8
-  pub table-left : (replied.means (o .answer) .refused ≡ 0 → ⊥) → o .table ≡ table
-  pub mask-left : (replied.means (o .answer) .refused ≡ 0 → ⊥) → (replied.means (o .answer) .refused ≡ 8 → ⊥) → o .mask ≡ mask
-  pub short : replied.means (o .answer) .refused ≡ 8 → TooShort areas lines draw mask table o
+  pub table-left : (r .refused ≡ 0 → ⊥) → entries ≡ table
+  pub mask-left : (r .refused ≡ 0 → ⊥) → (r .refused ≡ 8 → ⊥) → after ≡ mask
+  pub short : r .refused ≡ 8 → TooShort areas lines draw mask table r after
   -- not refused
-  pub carries : replied.means (o .answer) .refused ≡ 0 → Carries areas lines draw mask o
+  pub carries : r .refused ≡ 0 → Carries areas lines draw mask r after
 
 -- "The list of demand 3": an outcome is right if it is what the ledger answers, by its lines before the call
 abbrev pub Right : List Area → List Licence → (c : Call) → Outcome c → Type 0
 Right areas lines (grant l) answer = grantNumber answer ≡ grantRule lines l
 Right areas lines (cancel s) answer = cancelNumber answer ≡ cancelRule lines s
 Right areas lines (propose draw) p = ProposalRight areas lines draw p
-Right areas lines (footprint draw mask table) o = FootprintRight areas lines draw mask table o
+Right areas lines (footprint draw mask table) o =
+    FootprintRight areas lines draw mask table (replies (o .answer)) (o .mask) (o .table)
 
 -- "The list of demand 3": one claim about a whole list of calls, each outcome right for the ledger's lines before its call
 abbrev pub AllRight : List Area → List Licence → List Made → Type 0
@@ -90,7 +94,7 @@ abbrev pub number : (c : Call) → Outcome c → ℕ
 number (grant l) answer = grantNumber answer
 number (cancel s) answer = cancelNumber answer
 number (propose draw) p = refusalNumber (p .outcome)
-number (footprint draw mask table) o = replied.means (o .answer) .refused
+number (footprint draw mask table) o = replies (o .answer) .refused
 
 -- "The list of demand 3": no two lines share a call sign, and there are at most 64
 pub record Sound (lines : List Licence) : Type 0 where

@@ -24,25 +24,20 @@ pub record Placed (old : List FlatLicence) (l : Licence) (new : List FlatLicence
   pub now : new ≡ set old place (flatOf l)
 
 -- "Refused by the state": a grant answers by its rule, leaves the register where it refuses, and else places the licence
-pub record GrantDone (old : Register) (l : Licence) (r : Granted) : Type 0 where
-  pub number : grantNumber (r .answer) ≡ grantRule (inForce (old .places)) l
-  pub refused : (grantNumber (r .answer) ≡ 0 → ⊥) → r .next ≡ old
-  pub accepted : grantNumber (r .answer) ≡ 0 → Placed (old .places) l (r .next .places)
-
--- "Refused by the state": a cancellation answers by its rule, leaves the register where it refuses, and else frees the call sign's places
-pub record CancelDone (old : Register) (s : ℕ) (r : Cancelled) : Type 0 where
-  pub number : cancelNumber (r .answer) ≡ cancelRule (inForce (old .places)) s
-  pub refused : (cancelNumber (r .answer) ≡ 0 → ⊥) → r .next ≡ old
-  pub accepted : cancelNumber (r .answer) ≡ 0 → r .next .places ≡ release s (old .places)
-
--- ---- the same with the refusal as a number
-
 pub record GrantStep (old : Register) (l : Licence) (r : Step) : Type 0 where
   pub number : r .refusal ≡ grantRule (inForce (old .places)) l
   pub refused : (r .refusal ≡ 0 → ⊥) → r .next ≡ old
   pub accepted : r .refusal ≡ 0 → Placed (old .places) l (r .next .places)
 
+-- "Refused by the state": a cancellation answers by its rule, leaves the register where it refuses, and else frees the call sign's places
 pub record CancelStep (old : Register) (s : ℕ) (r : Step) : Type 0 where
   pub number : r .refusal ≡ cancelRule (inForce (old .places)) s
   pub refused : (r .refusal ≡ 0 → ⊥) → r .next ≡ old
   pub accepted : r .refusal ≡ 0 → r .next .places ≡ release s (old .places)
+
+-- the same where the answer is an enum, by its number
+abbrev pub GrantDone : Register → Licence → Granted → Type 0
+GrantDone old l r = GrantStep old l (record { next = r .next; refusal = grantNumber (r .answer) })
+
+abbrev pub CancelDone : Register → ℕ → Cancelled → Type 0
+CancelDone old s r = CancelStep old s (record { next = r .next; refusal = cancelNumber (r .answer) })

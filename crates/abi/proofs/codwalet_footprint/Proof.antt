@@ -1,6 +1,6 @@
 -- `abi::codwalet_footprint`: the answer in numbers, the buffers as the footprint leaves them. Assumes nothing.
 use borrow.Author.Needs.{needs}
-use Rattle.abi.proofs.FlatLaws.{outline-done}
+use Rattle.abi.proofs.FlatLaws.{same-reply}
 use Rattle.abi.proofs.codwalet_footprint.Statement.{statement}
 use Rattle.abi.proofs.codwalet_footprint.Tie as tie
 
@@ -17,7 +17,7 @@ same-length-2 : tie.Need-same-length-2
 same-length-2 c = search needs
 
 returns : tie.Need-returns
-returns c = outline-done (c .before .before .before .before .before .footprint .ensures) (c .outline-of .ensures)
+returns c = same-reply (c .before .before .before .before .before .footprint .ensures) (c .outline-of .ensures)
 
 pub codwalet-footprint-spec : {M : Type 1} → statement M
 codwalet-footprint-spec =

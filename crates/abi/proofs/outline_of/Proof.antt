@@ -15,9 +15,9 @@ entries-needed-requires c κs = search needs
 returns : tie.Need-returns
 returns c =
     λ i. record {
-      refusal = c .before .before .refusal .ensures i;
-      area = c .before .area-made .ensures i;
+      refused = c .before .before .refusal .ensures i;
       needed = c .entries-needed .ensures i;
+      area = c .before .area-made .ensures i;
     }
 
 pub outline-of-spec : {M : Type 1} → statement M
