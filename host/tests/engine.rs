@@ -134,6 +134,12 @@ fn refusals_have_numbers_and_words() {
     ];
     assert_eq!(refusals.map(Refusal::number), [1, 2, 3, 4, 5, 6, 7, 8, 9, 10, 11, 12, 13]);
     assert_eq!(refusals[7].to_string(), "the table is too short: 4 entries are needed");
+    // All that a plan can meet are listed for planners.
+    let listed = include_str!("../../docs/PLANS.md");
+    for refusal in refusals.iter().filter(|refusal| ![7, 8].contains(&refusal.number())) {
+        let row = format!("| {} | {refusal} |", refusal.number());
+        assert!(listed.contains(&row), "docs/PLANS.md lacks {row}");
+    }
     let error: &dyn std::error::Error = &refusals[8];
     assert_eq!(error.to_string(), "the call sign is in force already");
 }

@@ -46,6 +46,24 @@ fn plans_answer_as_stored() {
     }
 }
 
+/// The names of fields in a text of JSON objects.
+fn names(json: &str) -> impl Iterator<Item = &str> {
+    json.split("\":").filter_map(|before| before.rsplit('"').next()).filter(|name| !name.contains('}'))
+}
+
+#[test]
+fn names_of_json_fields_are_explained() {
+    let explained = include_str!("../../docs/PLANS.md");
+    let mut count = 0;
+    for plan in plans() {
+        for name in names(&expected(&format!("{plan}.json"))) {
+            assert!(explained.contains(&format!("`{name}`")), "docs/PLANS.md lacks `{name}`");
+            count += 1;
+        }
+    }
+    assert!(count > 100, "{count} names");
+}
+
 #[test]
 fn a_built_map_is_shown_as_its_csv() {
     let folder = empty_folder("examples-built");
