@@ -183,7 +183,8 @@ fill-starts ps n = record {
 }
 
 module _ {ps : List FlatLicence} {n i : ℕ} {edges : List ℤ} (w : Filled ps n i edges) where
-  pub fill-turns : {b : GeoBox} → n ≤ 64 → i < n → b ≡ placeBox (licenceOf (getD ps i freePlace)) → Filled ps n (i + 1) (boxSet edges n i b)
+  pub fill-turns : {b : GeoBox} → n ≤ 64 → i < n → b ≡ placeBox (licenceOf (getD ps i freePlace))
+      → Filled ps n (i + 1) (boxSet edges n i b)
   fill-turns {b} few h e =
       let s = w .size in
       let room : 4 * n ≤ length edges = omega arith in

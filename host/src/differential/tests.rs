@@ -14,10 +14,23 @@ use crate::random::Random;
 use crate::raw::{Area, Covered, Held, Licence, Outline, Proposal, Register, Step};
 use crate::reference;
 
-/// What is wrong with an engine.
-#[derive(Clone, Copy, Debug, PartialEq, Eq)]
-enum Mistake {
-    Nothing,
+/// Declares the mistakes, and lists them all but `Nothing`.
+macro_rules! mistakes {
+    ($($mistake:ident,)*) => {
+        /// What is wrong with an engine.
+        #[derive(Clone, Copy, Debug, PartialEq, Eq)]
+        enum Mistake {
+            Nothing,
+            $($mistake,)*
+        }
+
+        use Mistake::*;
+
+        const MISTAKES: &[Mistake] = &[$($mistake,)*];
+    };
+}
+
+mistakes! {
     EmptyHoldsALicence,
     GrantRefusesAll,
     GrantTakesTwice,
@@ -60,52 +73,6 @@ enum Mistake {
     TableWrittenPastUse,
     TableGuard,
 }
-
-use Mistake::*;
-
-const MISTAKES: [Mistake; 41] = [
-    EmptyHoldsALicence,
-    GrantRefusesAll,
-    GrantTakesTwice,
-    GrantTakesTwoPlaces,
-    GrantTakesAPlaceInForce,
-    GrantKeepsWhatIsUnused,
-    RefusedGrantChangesARegister,
-    CancelReturnsItsRegister,
-    CancelStrikesOneOfTwo,
-    CancelLeavesTheGround,
-    MapIsNeverRefused,
-    LookUpRefusal,
-    LookUpWeight,
-    LookUpRows,
-    LookUpColumns,
-    LookUpPopulation,
-    LookUpOffset,
-    LookUpLength,
-    CoveragePeople,
-    CoverageOfALackingArea,
-    BlocksWhole,
-    BlocksValue,
-    BlocksSize,
-    BlocksUnused,
-    ProposalKindIsExact,
-    ProposalTiedIsOne,
-    ProposalIgnoresTheDraw,
-    ProposalWhiteSpace,
-    ProposalTarget,
-    ProposalShare,
-    ProposalPastItsCount,
-    FootprintIsTheWholeArea,
-    FootprintArea,
-    MaskAfterTheArea,
-    MaskGuardBefore,
-    MaskGuardAfter,
-    MaskKeptAtEight,
-    MaskWrittenWhereRefused,
-    NeededIsOneMore,
-    TableWrittenPastUse,
-    TableGuard,
-];
 
 /// The reference as an engine, with a mistake.
 struct Wrong(Mistake);
@@ -293,7 +260,7 @@ fn the_reference_does_not_differ_from_itself() {
 #[test]
 fn each_mistake_is_seen() {
     let cases = cases(10);
-    for mistake in MISTAKES {
+    for &mistake in MISTAKES {
         assert!(first_difference(&cases, mistake).is_some(), "{mistake:?}");
     }
 }
