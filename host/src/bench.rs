@@ -1,7 +1,7 @@
 //! Times of the engine beside those of the same work written directly in Rust, in one run. Both get the same bytes, and
 //! buffers in the same state, by turns. Each time is the least of several runs, as whatever else the machine does only
-//! adds to it. Runs are made at several alignments of the stack, as a copy takes longer where it crosses cache lines.
-//! The answers must agree.
+//! adds to it. Runs are made at several alignments of the stack, since a grant and a cancellation were seen to take up
+//! to a fifth longer at some. The answers must agree.
 
 mod holdings;
 mod plain;
