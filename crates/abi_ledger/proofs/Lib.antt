@@ -1,3 +1,2 @@
--- The claim about every list of calls through the C interface, and that its steps are the exported functions' contracts.
-pub mod Post
-pub mod Lists
+-- The exported functions keep the laws of an interface, so demand 3 holds of lists of their calls.
+pub mod Exported

@@ -1,6 +1,5 @@
--- The claim about every list of calls, that its steps are the functions' contracts, laws of a list that is played, and calls read by hand.
-pub mod Lists
-pub mod Outlines
-pub mod Post
+-- The engine's functions keep the laws of an interface, so demand 3 holds of them; laws of a list that is played, and that what `play`
+-- ensures pins it.
+pub mod Engine
 pub mod PlayLaws
-pub mod Examples
+pub mod ToldLaws

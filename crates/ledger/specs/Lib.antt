@@ -1,7 +1,6 @@
--- Document 01, "The list of demand 3": its calls, its ledger, its runs, and what is claimed of them.
-pub mod Calls
-pub mod Ledger
-pub mod Runs
-pub mod Right
+-- Document 01, "The list of demand 3": the engine's functions as an interface, and lists of their calls that `play` plays.
+pub mod Engine
 pub mod Played
+pub mod Told
+pub mod Examples
 pub mod Code

@@ -11,19 +11,21 @@ ghost use mathlib.Core.List.{List};
 ghost use lib.Dec.{eqb};
 ghost use lib.ListN.{length};
 ghost use Rattle.lists.specs.Sums.{flag};
-ghost use Rattle.ledger.specs.Calls.{grant, cancel, propose, footprint};
-ghost use Rattle.ledger.specs.Played.{groundAt, callAt, PlayDone};
-ghost use Rattle.ledger.specs.Code.{CallDone};
+ghost use Rattle.demand3.specs.Calls.{grant, cancel, propose, footprint};
+ghost use Rattle.ledger.specs.Played.{groundAt, itemAt, PlayDone};
+ghost use Rattle.ledger.specs.Code.{CallDone, ItemDone};
 
-// What comes of a list: the register after its last call, how many calls it has, and how many of them were refused.
+// What comes of a list: the register after its last call, how many calls were made, and how many of them were refused.
 pub struct Played {
     pub register: Register,
     pub calls: usize,
     pub refused: usize,
 }
 
-// What a call leaves: the register, and document 01's number of its refusal, 0 where it is not refused.
+// What an item of the list leaves: whether a call was made, the register, and document 01's number of its refusal, 0 where it is not
+// refused.
 struct Next {
+    made: bool,
     register: Register,
     number: u32,
 }
@@ -63,6 +65,7 @@ fn play_grant(register: Register, l: Licence) -> Next
     let answer = granted.answer;
     let next = granted.next;
     Next {
+        made: true,
         register: next,
         number: answer.number(),
     }
@@ -76,6 +79,7 @@ fn play_cancel(register: Register, call_sign: u32) -> Next
     let answer = cancelled.answer;
     let left = cancelled.next;
     Next {
+        made: true,
         register: left,
         number: answer.number(),
     }
@@ -88,6 +92,7 @@ fn play_proposal(map: &[u8], register: Register, draw: u32) -> Next
     let p = proposal::propose(map, register, draw);
     let outcome = p.outcome;
     Next {
+        made: true,
         register,
         number: outcome.refusal(),
     }
@@ -106,13 +111,14 @@ fn play_footprint(
 {
     let answer = footprint::footprint(map, register, draw, mask, table);
     Next {
+        made: true,
         register,
         number: answer.refusal(),
     }
 }
 
-// The call in the eight words at a position, by its kind.
-fn play_call(
+// The call in the eight words at a position, by its kind; none where no call has that kind.
+fn play_item(
     map: &[u8],
     register: Register,
     calls: &[u32],
@@ -121,8 +127,8 @@ fn play_call(
     table: &mut [u16],
 ) -> Next
     requires { ⌜ at + 8 ≤ length (now calls) ⌝ }
-    ensures { λ r. ⌜ CallDone (now (map .entry)) register
-        (callAt (now (calls .entry)) at (now (mask .entry)) (now (table .entry)))
+    ensures { λ r. ⌜ ItemDone (now (map .entry)) register
+        (itemAt (now (calls .entry)) at (now (mask .entry)) (now (table .entry)))
         (now (mask .entry)) (now (mask .exit)) (now (table .entry)) (now (table .exit)) r ⌝ }
 {
     let kind = calls[at];
@@ -140,14 +146,19 @@ fn play_call(
         }
         1 => play_cancel(register, word),
         2 => play_proposal(map, register, word),
-        _ => play_footprint(map, register, word, mask, table),
+        3 => play_footprint(map, register, word, mask, table),
+        _ => Next {
+            made: false,
+            register,
+            number: 0,
+        },
     }
 }
 
 // Plays a list of calls on one register, from an empty one, over one map; every footprint is lent the same mask and table. Eight words
-// are a call: its kind (0 a grant, 1 a cancellation, 2 a proposal, else a footprint); its call sign or its draw; and the ground of a grant,
-// which is 0 and an area's number, or else anything but 0, a word that is not read, and the edges south, north, west and east.
-// Words after the last whole call are not read.
+// are an item of the list: its kind (0 a grant, 1 a cancellation, 2 a proposal, 3 a footprint); its call sign or its draw; and the ground
+// of a grant, which is 0 and an area's number, or else anything but 0, a word that is not read, and the edges south, north, west and east.
+// The list ends before the first item of another kind, which makes no call, or with the last eight words: words after those are not read.
 pub fn play(map: &[u8], calls: &[u32], mask: &mut [u8], table: &mut [u16]) -> Played
     ensures { λ r. ⌜ PlayDone (now (map .entry)) (now (calls .entry)) (now (mask .entry)) (now (mask .exit))
         (now (table .entry)) (now (table .exit)) r ⌝ }
@@ -158,7 +169,10 @@ pub fn play(map: &[u8], calls: &[u32], mask: &mut [u8], table: &mut [u16]) -> Pl
     let mut i: usize = 0;
     while i < count {
         let before = register;
-        let next = play_call(map, before, calls, 8 * i, mask, table);
+        let next = play_item(map, before, calls, 8 * i, mask, table);
+        if !next.made {
+            break;
+        }
         refused += one_refused(next.number);
         let after = next.register;
         register = after;
@@ -166,7 +180,7 @@ pub fn play(map: &[u8], calls: &[u32], mask: &mut [u8], table: &mut [u16]) -> Pl
     }
     Played {
         register,
-        calls: count,
+        calls: i,
         refused,
     }
 }

@@ -22,7 +22,8 @@ returns c =
     let start = d .before .before .before .before .before .before in
     let f = d .footprint in
     record {
-      outcome = record { answer = f .result; mask = f .last .1 .1 .1 .0; table = f .last .1 .1 .1 .1 .0 };
+      made = refl;
+      answer = record { answer = f .result; mask = f .last .1 .1 .1 .0; table = f .last .1 .1 .1 .1 .0 };
       steps = (
         record {
           lives = f .lifetimes;

@@ -13,7 +13,8 @@ number-requires c κs = search needs
 returns : tie.Need-returns
 returns c =
     λ map mask table. record {
-      outcome = c .before .before .grant .result .answer;
+      made = refl;
+      answer = c .before .before .grant .result .answer;
       steps = c .before .before .grant .ensures;
       masks = refl;
       tables = refl;

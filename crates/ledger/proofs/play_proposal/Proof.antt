@@ -15,7 +15,8 @@ returns c =
     let p = c .before .propose in
     let map = c .before .before .before .args .map in
     λ mask table. record {
-      outcome = p .result;
+      made = refl;
+      answer = p .result;
       steps = (record { lives = p .lifetimes; lies = record { ptr = map .ptr; name = map .name }; post = p .ensures }, refl);
       masks = refl;
       tables = refl;

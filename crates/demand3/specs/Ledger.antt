@@ -5,7 +5,7 @@ use lib.Dec.{eqb}
 use Rattle.register.specs.declared.Licence.{Licence}
 use Rattle.register.specs.Licences.{strike}
 use Rattle.register.specs.Rules.{grantRule, cancelRule}
-use Rattle.ledger.specs.Calls.{Call, grant, cancel, propose, footprint}
+use Rattle.demand3.specs.Calls.{Call, grant, cancel, propose, footprint}
 
 -- "The list of demand 3": an accepted grant adds its line, an accepted cancellation strikes its own, and nothing else changes a line
 abbrev pub linesAfter : List Licence → Call → List Licence

@@ -10,32 +10,22 @@ use Rattle.lists.specs.Sums.{flag}
 use Rattle.lists.specs.Filters.{upTo}
 use Rattle.lists.proofs.Tests.{told}
 use Rattle.lists.proofs.InPlace.{each-below, each-at}
-use Rattle.map.specs.Reading.{Read, good}
+use Rattle.map.specs.Reading.{good}
 use Rattle.map.specs.Format.{Area, readMap}
 use Rattle.map.specs.Accepted.{AreaHolds, MapHolds}
 use Rattle.map.proofs.Accepted.{accepted, locates}
 use Rattle.register.specs.declared.Licence.{Licence}
-use Rattle.register.specs.Sums.{SameLicences}
 use Rattle.coverage.specs.Cover.{holdingsOf}
 use Rattle.proposal.specs.Answer.{Proposal, proposal}
 use Rattle.ring.specs.Ring.{Places, shown}
 use Rattle.rounds.specs.Footprint as outline
 use Rattle.rounds.proofs.Theorems.{right-same}
-use Rattle.footprint.specs.Footprint.{Footprint, refused, short, partArea, coveredCells, footprintBy, footprintOn}
+use Rattle.footprint.specs.Footprint.{Footprint, refused, short, partArea, coveredCells, footprintBy}
 use Rattle.footprint.specs.Contracts.{Reply, Leaves}
 use Rattle.footprint.proofs.ShareLaws.{OneShare, located-self}
-use Rattle.footprint.proofs.SameLaws.{same-footprint}
 use Rattle.footprint.proofs.CaseLaws.{Case, refuses, lacks, makes, cases}
 use Rattle.footprint.proofs.OutlineLaws.{outline-right}
-use Rattle.ledger.specs.Right.{Partial, FootprintRight}
-
--- the map is accepted, and the licences are the ledger's lines
-pub outline-on-lines : (s : List ℕ) (areas : List Area) (e : ℕ) → readMap s ≡ good areas e
-    → (xs lines : List Licence) → SameLicences xs lines → (draw mask table : ℕ)
-    → footprintOn (readMap s) xs draw mask table ≡ footprintBy areas lines mask table (proposal (holdingsOf lines areas) draw)
-unfolding footprintOn
-outline-on-lines s areas e reads xs lines same draw mask table =
-    ap (λ (m : Read (List Area)). footprintOn m xs draw mask table) reads ∙ same-footprint xs lines same areas mask table draw
+use Rattle.demand3.specs.Right.{Partial, FootprintRight}
 
 -- a set told by 1 and 0 in the first n bytes
 shown-front : (cells : Places) (n : ℕ) (rest : List ℕ) (i : ℕ) → i < n → shown (map (λ j. flag (cells j)) (upTo n) ++ rest) i ≡ cells i

@@ -1,12 +1,13 @@
--- `ledger::play_call`: the first word says which call it is, and the arms make it. Assumes nothing.
-use mathlib.Core.Path.{subst}
+-- `ledger::play_item`: the first word says which call it is, and the arms make it. Assumes nothing.
+use mathlib.Core.Path.{subst, refl}
+use mathlib.Core.Bool.{false}
 use denote.Ref.{now}
-use Rattle.ledger.specs.Calls.{Call}
-use Rattle.ledger.specs.Code.{CallDone}
-use Rattle.ledger.proofs.PlayLaws.{call-grants, call-cancels, call-proposes, call-footprints}
+use Rattle.ledger.specs.Played.{Item}
+use Rattle.ledger.specs.Code.{ItemDone}
+use Rattle.ledger.proofs.PlayLaws.{item-grant, item-cancel, item-propose, item-footprint, item-unknown}
 use borrow.Author.Needs.{needs}
-use Rattle.ledger.proofs.play_call.Statement.{statement}
-use Rattle.ledger.proofs.play_call.Tie as tie
+use Rattle.ledger.proofs.play_item.Statement.{statement}
+use Rattle.ledger.proofs.play_item.Tie as tie
 
 mul-kind : tie.Need-mul-kind
 mul-kind c = search needs
@@ -42,26 +43,26 @@ returns : tie.Need-returns
 returns c =
     let start = c .before .before .before .before .before .before .before .before .before in
     let a = start .args in
-    subst (λ (call : Call). CallDone (now (a .map)) (a .register) call (now (a .mask)) (now (a .mask)) (now (a .table)) (now (a .table))
+    subst (λ (item : Item). ItemDone (now (a .map)) (a .register) item (now (a .mask)) (now (a .mask)) (now (a .table)) (now (a .table))
     (c .play-grant .result))
-    (call-grants (now (a .calls)) (a .at) (now (a .mask)) (now (a .table)) (c .before .before .match .keys1)
+    (item-grant (now (a .calls)) (a .at) (now (a .mask)) (now (a .table)) (c .before .before .match .keys1)
     (c .before .ground-at .result) (c .before .ground-at .ensures))
     (c .play-grant .ensures (now (a .map)) (now (a .mask)) (now (a .table)))
 
 returns-2 : tie.Need-returns-2
 returns-2 c =
     let a = c .before .before .before .before .before .before .before .before .args in
-    subst (λ (call : Call). CallDone (now (a .map)) (a .register) call (now (a .mask)) (now (a .mask)) (now (a .table)) (now (a .table))
+    subst (λ (item : Item). ItemDone (now (a .map)) (a .register) item (now (a .mask)) (now (a .mask)) (now (a .table)) (now (a .table))
     (c .play-cancel .result))
-    (call-cancels (now (a .calls)) (a .at) (now (a .mask)) (now (a .table)) (c .before .match .keys2))
+    (item-cancel (now (a .calls)) (a .at) (now (a .mask)) (now (a .table)) (c .before .match .keys2))
     (c .play-cancel .ensures (now (a .map)) (now (a .mask)) (now (a .table)))
 
 returns-3 : tie.Need-returns-3
 returns-3 c =
     let a = c .before .before .before .before .before .before .before .before .args in
-    subst (λ (call : Call). CallDone (now (a .map)) (a .register) call (now (a .mask)) (now (a .mask)) (now (a .table)) (now (a .table))
+    subst (λ (item : Item). ItemDone (now (a .map)) (a .register) item (now (a .mask)) (now (a .mask)) (now (a .table)) (now (a .table))
     (c .play-proposal .result))
-    (call-proposes (now (a .calls)) (a .at) (now (a .mask)) (now (a .table)) (c .before .match .keys3))
+    (item-propose (now (a .calls)) (a .at) (now (a .mask)) (now (a .table)) (c .before .match .keys3))
     (c .play-proposal .ensures (now (a .mask)) (now (a .table)))
 
 same-length : tie.Need-same-length
@@ -73,16 +74,25 @@ same-length-2 c = search needs
 returns-4 : tie.Need-returns-4
 returns-4 c =
     let d = c .before .before .before .before in
-    let m = d .before .before .before .match .rest in
+    let k = d .before .before .before .match .keys4 in
     let a = d .before .before .before .before .before .before .before .before .before .before .args in
     let f = d .play-footprint in
-    subst (λ (call : Call). CallDone (now (a .map)) (a .register) call (now (a .mask)) (f .last .1 .1 .1 .0) (now (a .table))
+    subst (λ (item : Item). ItemDone (now (a .map)) (a .register) item (now (a .mask)) (f .last .1 .1 .1 .0) (now (a .table))
     (f .last .1 .1 .1 .1 .0) (f .result))
-    (call-footprints (now (a .calls)) (a .at) (now (a .mask)) (now (a .table)) (m .0 .0 .1) (m .0 .1) (m .1))
+    (item-footprint (now (a .calls)) (a .at) (now (a .mask)) (now (a .table)) k)
     (f .ensures)
 
-pub play-call-spec : {M : Type 1} → statement M
-play-call-spec =
+returns-5 : tie.Need-returns-5
+returns-5 c =
+    let a = c .before .before .before .before .before .before .before .args in
+    let m = c .match .rest in
+    subst (λ (item : Item). ItemDone (now (a .map)) (a .register) item (now (a .mask)) (now (a .mask)) (now (a .table)) (now (a .table))
+    (record { made = false; register = a .register; number = 0 }))
+    (item-unknown (now (a .calls)) (a .at) (now (a .mask)) (now (a .table)) (m .0 .0 .0 .1) (m .0 .0 .1) (m .0 .1) (m .1))
+    (record { none = refl; register = refl; masks = refl; tables = refl })
+
+pub play-item-spec : {M : Type 1} → statement M
+play-item-spec =
     tie.close
     (tie.spec
     mul-kind
@@ -100,4 +110,5 @@ play-call-spec =
     returns-3
     same-length
     same-length-2
-    returns-4)
+    returns-4
+    returns-5)

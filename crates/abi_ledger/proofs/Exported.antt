@@ -1,0 +1,44 @@
+-- Document 01, "The list of demand 3", through the C interface: the exported functions keep the laws of an interface, so demand 3 holds
+-- of them. Assumes nothing.
+use mathlib.Core.Path.{_≡_, refl, ap, subst}
+use Rattle.register.specs.declared.Licence.{Licence}
+use Rattle.register.specs.Contracts.{GrantStep}
+use Rattle.proposal.specs.Answer.{Proposal}
+use Rattle.abi.specs.declared.FlatProposal.{FlatProposal}
+use Rattle.abi.specs.Flat.{flatProposal}
+use Rattle.demand3.specs.Calls.{Call, grant, cancel, propose, footprint}
+use Rattle.demand3.specs.Right.{Demand3}
+use Rattle.demand3.proofs.Lawful.{Lawful, Laws, proposing-lawful, outlining-lawful}
+use Rattle.demand3.proofs.Lists.{demand-3}
+use Rattle.abi_ledger.specs.Exported.{function, exported}
+
+proposal-number : (a : FlatProposal) (p : Proposal) → a ≡ flatProposal p → a .refusal ≡ p .refused
+unfolding flatProposal
+proposal-number a p e = ap (λ (x : FlatProposal). x .refusal) e
+
+lawful : (c : Call) → Lawful (function c)
+lawful (grant l) = record {
+  asks-nothing = λ map r given. tt;
+  -- a grant of what the caller laid out is one of the licence that it means
+  said = λ {map} {r} {a} {next} d. record {
+    outcome = a;
+    says = refl;
+    holds = subst (λ (x : Licence). GrantStep r x (record { next = next; refusal = a })) (d .means) (d .post);
+  };
+  numbered = λ e. e;
+}
+lawful (cancel s) = record {
+  asks-nothing = λ map r. tt;
+  said = λ {map} {r} {a} {next} d. record { outcome = a; says = refl; holds = d };
+  numbered = λ e. e;
+}
+lawful (propose draw) =
+    proposing-lawful draw _ _ _ _ (λ lives given. tt) (λ lives lies map r a e. e) proposal-number
+lawful (footprint draw mask table) =
+    outlining-lawful draw mask table _ _ _ (λ lives given. tt) (λ lives lies masks tables map r a after entries d. d)
+
+laws : Laws exported
+laws = record { empty-asks-nothing = tt; empties = λ e. e; each = lawful }
+
+pub exported-demand-3 : Demand3 exported
+exported-demand-3 = demand-3 exported laws

@@ -1,0 +1,50 @@
+-- Document 01, "The list of demand 3", through the C interface: what is known of each exported function is its own contract, as in
+-- ledger's specs/Engine. What lists, runs and demand 3 are stands in `demand3`. Assumes nothing.
+use Prim.Native.Nat.{ℕ}
+use mathlib.Core.Path.{_≡_}
+use Rattle.register.specs.declared.Licence.{Licence}
+use Rattle.register.specs.declared.FlatLicence.{FlatLicence}
+use Rattle.register.specs.declared.Register.{Register}
+use Rattle.register.specs.Licences.{licenceOf}
+use Rattle.abi.specs.Flat.{flatProposal, outlineMeans}
+use Rattle.abi.proofs.codwalet_empty.Reads as empty-reads
+use Rattle.abi.proofs.codwalet_grant.Reads as grant-reads
+use Rattle.abi.proofs.codwalet_cancel.Reads as cancel-reads
+use Rattle.abi.proofs.codwalet_propose.Reads as propose-reads
+use Rattle.abi.proofs.codwalet_footprint.Reads as footprint-reads
+use Rattle.demand3.specs.Calls.{Call, grant, cancel, propose, footprint}
+use Rattle.demand3.specs.Interface.{Function, Interface}
+use Rattle.demand3.specs.Lent.{proposing, outlining}
+
+-- what `codwalet_grant(r, given)` ensures, `given` being a licence as the caller laid it out
+pub record Grants (r : Register) (l : Licence) (n : ℕ) (next : Register) : Type 0 where
+  pub given : FlatLicence
+  pub means : licenceOf given ≡ l
+  pub post : grant-reads.Post tt (r, (given, tt)) (record { next = next; refusal = n }) (r, (given, tt))
+
+-- a grant and a cancellation answer by document 01's number, 0 where they are accepted
+abbrev pub function : (c : Call) → Function c
+-- `codwalet_grant(r, given)`
+function (grant l) = record {
+  Answer = ℕ;
+  number = λ n. n;
+  Says = λ n m. n ≡ m;
+  Asks = λ map r. (given : FlatLicence) → grant-reads.Pre tt (r, (given, tt));
+  Step = λ map r n next. Grants r l n next;
+}
+-- `codwalet_cancel(r, s)`
+function (cancel s) = record {
+  Answer = ℕ;
+  number = λ n. n;
+  Says = λ n m. n ≡ m;
+  Asks = λ map r. cancel-reads.Pre tt (r, (s, tt));
+  Step = λ map r n next. cancel-reads.Post tt (r, (s, tt)) (record { next = next; refusal = n }) (r, (s, tt));
+}
+-- `codwalet_propose(map, r, draw)`
+function (propose draw) = proposing draw (λ a. a .refusal) (λ a p. a ≡ flatProposal p) propose-reads.Pre propose-reads.Post
+-- `codwalet_footprint(map, r, draw, mask, table)`
+function (footprint draw mask table) = outlining draw mask table outlineMeans footprint-reads.Pre footprint-reads.Post
+
+-- the exported functions; an empty register is `codwalet_empty()`
+abbrev pub exported : Interface
+exported = record { EmptyAsks = empty-reads.Pre tt tt; Empties = λ r. empty-reads.Post tt tt r tt; function = function }
