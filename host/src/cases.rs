@@ -6,6 +6,7 @@ mod encoding;
 mod expected;
 mod footprints;
 mod grants;
+mod lists;
 mod maps;
 mod proposals;
 
@@ -71,6 +72,7 @@ impl Cases {
         grants::add(&mut cases, &mut random);
         proposals::add(&mut cases, &mut random);
         footprints::add(&mut cases, &mut random);
+        lists::add(&mut cases, &mut random);
         cases
     }
 

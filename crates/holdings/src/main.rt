@@ -1,4 +1,5 @@
-// Plays a file of cases: maps that are checked and looked up in, and calls on one register, in up to two blocks of 65,536 bytes.
+// Plays a file of cases: maps that are checked and looked up in, calls on one register, and lists of calls that each start from an
+// empty one. They come in up to two blocks of 65,536 bytes.
 // `host/run cases --write` writes the cases and, by an implementation of its own, the lines that must come out.
 use coverage::BlocksAnswer;
 use coverage::CoverageAnswer;
@@ -47,8 +48,8 @@ fn play_all(s: &[u8], start: Register) -> Register {
     register
 }
 
-// One case, by its first byte: M a map, G a grant, C a cancellation, E an empty register, P proposals, F footprints. Anything else
-// ends the block.
+// One case, by its first byte: M a map, G a grant, C a cancellation, E an empty register, P proposals, F footprints, L a list of
+// calls. Anything else ends the block.
 fn play(s: &[u8], register: Register) -> Played
     requires { ⌜ 0 < length (now s) ⌝ }
     ensures { λ r. ⌜ (0 < r .used) × (r .used ≤ length (now (s .entry))) ⌝ }
@@ -78,6 +79,7 @@ fn play(s: &[u8], register: Register) -> Played
             let used = 1 + footprint_case(rest, register);
             Played { used, register }
         }
+        b'L' => list_case(s, register),
         _ => Played {
             used: s.len(),
             register,
@@ -460,6 +462,99 @@ fn unchanged(table: &[u16], from: usize) -> u64 {
         i += 1;
     }
     count
+}
+
+// A list of calls: a map's length and bytes, and the list. The register that it leaves takes the place of the one before.
+fn list_case(s: &[u8], register: Register) -> Played
+    requires { ⌜ 0 < length (now s) ⌝ }
+    ensures { λ r. ⌜ (0 < r .used) × (r .used ≤ length (now (s .entry))) ⌝ }
+{
+    let rest = &s[1..];
+    let end = map_end(rest);
+    if end < 4 {
+        return Played {
+            used: s.len(),
+            register,
+        };
+    }
+    let map = &rest[4..end];
+    let done = listed(&rest[end..], map, register);
+    let used = 1 + end + done.used;
+    let next = done.register;
+    Played {
+        used,
+        register: next,
+    }
+}
+
+// The bytes of the mask, the entries of the table, the entry from which none may change, the number of words, and the words. The block
+// ends, and nothing is played, where words are missing or where it asks for more than there is to lend.
+fn listed(s: &[u8], map: &[u8], register: Register) -> Played
+    ensures { λ r. ⌜ r .used ≤ length (now (s .entry)) ⌝ }
+{
+    let bytes = u16_at(s, 0) as usize;
+    let entries = u16_at(s, 2) as usize;
+    let from = u16_at(s, 4) as usize;
+    let count = u16_at(s, 6) as usize;
+    let end = 8 + 4 * count;
+    if end <= s.len() {
+        let words = words_in(&s[8..end]);
+        let mut mask = mask_to_lend();
+        let mut table = table_to_lend();
+        if bytes <= 64 {
+            if entries <= 4096 {
+                if count <= 1024 {
+                    let next = play_list(
+                        map,
+                        &words[..count],
+                        &mut mask[..bytes],
+                        &mut table[..entries],
+                        from,
+                    );
+                    return Played {
+                        used: end,
+                        register: next,
+                    };
+                }
+            }
+        }
+        line(b" too long");
+    }
+    Played {
+        used: s.len(),
+        register,
+    }
+}
+
+// The words of a list; those past its end are 0, and are not lent.
+fn words_in(s: &[u8]) -> [u32; 1024]
+    ensures { λ r. ⌜ 1024 ≡ length r ⌝ }
+{
+    let mut words = [0u32; 1024];
+    let mut i: usize = 0;
+    while i < 1024 {
+        words[i] = u32_at(s, 4 * i);
+        i += 1;
+    }
+    words
+}
+
+// How many calls of a list were made and refused, the mask that they leave, and how much of the table they leave as it was. Gives the
+// register after the last of them.
+fn play_list(
+    map: &[u8],
+    words: &[u32],
+    mask: &mut [u8],
+    table: &mut [u16],
+    from: usize,
+) -> Register {
+    print(b"list", words.len() as u64);
+    let played = ledger::play(map, words, mask, table);
+    print(b" calls", played.calls as u64);
+    print(b" refused", played.refused as u64);
+    show_mask(mask);
+    print(b" unchanged", unchanged(table, from));
+    played.register
 }
 
 // The u16 at a position, 0 past the end.

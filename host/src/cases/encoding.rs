@@ -22,6 +22,9 @@ pub enum Case {
     Proposals { map: Vec<u8>, numbers: Vec<u16>, draws: Vec<u32> },
     /// A map, and footprints to make on it.
     Footprints { map: Vec<u8>, calls: Vec<Call> },
+    /// A list of calls in words, to play on a map from an empty register; the next cases have the register that it
+    /// leaves. Mask, table and `unchanged_from` are those of a `Call`, for the whole list.
+    List { map: Vec<u8>, mask: u16, table: u16, unchanged_from: u16, words: Vec<u32> },
 }
 
 /// A footprint to make.
@@ -46,6 +49,7 @@ impl Case {
             Case::Empty => "empty register",
             Case::Proposals { .. } => "proposals",
             Case::Footprints { .. } => "footprints",
+            Case::List { .. } => "list",
         }
     }
 
@@ -63,6 +67,10 @@ impl Case {
             Case::Footprints { map, calls } => {
                 let each_call: Vec<u8> = calls.iter().flat_map(encode_call).collect();
                 [vec![b'F'], sized(map), vec![calls.len() as u8], each_call].concat()
+            }
+            Case::List { map, mask, table, unchanged_from, words } => {
+                let sizes = u16s(&[*mask, *table, *unchanged_from, words.len() as u16]);
+                [vec![b'L'], sized(map), sizes, u32s(words)].concat()
             }
         }
     }
@@ -131,6 +139,13 @@ mod tests {
         assert_eq!(on_box, b"G\x02\x01\0\0\x01\0\0\xff\xff\xff\xff\x02\0\0\0\xfd\xff\xff\xff\x04\0\0\0");
         assert_eq!(Case::Cancellation(258).encode(), b"C\x02\x01\0\0");
         assert_eq!(Case::Empty.encode(), b"E");
+    }
+
+    #[test]
+    fn lists() {
+        let words = vec![3, u32::MAX - 1];
+        let list = Case::List { map: vec![7, 8, 9], mask: 64, table: 4_096, unchanged_from: 258, words };
+        assert_eq!(list.encode(), b"L\x03\0\0\0\x07\x08\x09\x40\0\0\x10\x02\x01\x02\0\x03\0\0\0\xfe\xff\xff\xff");
     }
 
     #[test]

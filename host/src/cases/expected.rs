@@ -1,12 +1,16 @@
 //! The lines that the program `holdings` must print for a case, by the independent implementation of document 01.
 
 use super::encoding::{Call, Case};
-use crate::reference::{self, Area, Blocks, Fault, Gets, Licence, Proposal};
+use crate::reference::{self, Area, Blocks, Fault, Gets, Ground, Licence, Proposal};
 
 /// What the program puts into a mask before it lends it: no byte of a footprint.
 const UNTOUCHED: u8 = 9;
 
-/// The lines of a case, each with its end of line. A grant, a cancellation or an empty register changes the ledger.
+/// The words of an item of a list.
+pub const ITEM: usize = 8;
+
+/// The lines of a case, each with its end of line. A grant, a cancellation, an empty register or a list changes the
+/// ledger.
 pub fn lines(case: &Case, ledger: &mut Vec<Licence>) -> String {
     let lines = match case {
         Case::Map { map, numbers } => map_lines(map, numbers),
@@ -24,6 +28,18 @@ pub fn lines(case: &Case, ledger: &mut Vec<Licence>) -> String {
         }
         Case::Proposals { map, numbers, draws } => proposals_lines(map, ledger, numbers, draws),
         Case::Footprints { map, calls } => calls.iter().flat_map(|call| footprint_lines(map, ledger, call)).collect(),
+        Case::List { map, mask, table, unchanged_from, words } => {
+            let mut mask = vec![UNTOUCHED; usize::from(*mask)];
+            let list = play(map, words, &mut mask, usize::from(*table));
+            *ledger = list.ledger;
+            vec![
+                format!("list {}", words.len()),
+                format!(" calls {}", list.calls),
+                format!(" refused {}", list.refusals.len()),
+                mask_line(&mask),
+                unchanged_line(*table, *unchanged_from),
+            ]
+        }
     };
     lines.iter().map(|line| format!("{line}\n")).collect()
 }
@@ -130,9 +146,17 @@ fn footprint_lines(map: &[u8], ledger: &[Licence], call: &Call) -> [String; 4] {
         Err(refused) if refused.number == 8 => format!(" needed {}", refused.needed),
         Err(refused) => format!(" refused {}", refused.number),
     };
+    [format!("footprint {}", call.draw), answer, mask_line(&mask), unchanged_line(call.table, call.unchanged_from)]
+}
+
+fn mask_line(mask: &[u8]) -> String {
     let shown: String = mask.iter().map(|&byte| shown(byte)).collect();
-    let unchanged = call.table.saturating_sub(call.unchanged_from);
-    [format!("footprint {}", call.draw), answer, format!(" mask {shown}"), format!(" unchanged {unchanged}")]
+    format!(" mask {shown}")
+}
+
+/// How many entries of a table must be as they were lent.
+fn unchanged_line(table: u16, unchanged_from: u16) -> String {
+    format!(" unchanged {}", table.saturating_sub(unchanged_from))
 }
 
 /// The character for a byte of a mask; any but 0 and 1 is as it was lent.
@@ -144,11 +168,67 @@ fn shown(byte: u8) -> char {
     }
 }
 
+/// What comes of a list of calls, besides the mask.
+#[derive(Default)]
+pub struct List {
+    ledger: Vec<Licence>,
+    calls: usize,
+    /// A number for each call that is refused.
+    pub refusals: Vec<u32>,
+    /// How many entries of the table its footprints may have used.
+    pub used: usize,
+}
+
+/// Plays a list from an empty ledger, by the words of the function `play` of the crate `ledger`: "The list ends before
+/// the first item of another kind, which makes no call, or with the last eight words: words after those are not read."
+pub fn play(map: &[u8], words: &[u32], mask: &mut [u8], table: usize) -> List {
+    let mut list = List::default();
+    for item in words.chunks_exact(ITEM) {
+        let (kind, word) = (item[0], item[1]);
+        let number = match kind {
+            0 => {
+                let next = reference::grant(&list.ledger, Licence { call_sign: word, ground: ground(item) });
+                settle(&mut list.ledger, next)
+            }
+            1 => {
+                let next = reference::cancel(&list.ledger, word);
+                settle(&mut list.ledger, next)
+            }
+            2 => {
+                let areas = reference::read_map(map).map_err(|fault| fault.number);
+                areas.and_then(|areas| reference::propose(&areas, &list.ledger, word)).err().unwrap_or(0)
+            }
+            3 => match reference::footprint(map, &list.ledger, word, mask, table) {
+                Ok(made) => {
+                    list.used = list.used.max(made.used);
+                    0
+                }
+                Err(refused) => refused.number,
+            },
+            _ => break,
+        };
+        list.calls += 1;
+        if number != 0 {
+            list.refusals.push(number);
+        }
+    }
+    list
+}
+
+/// The ground in an item: "0 and an area's number, or else anything but 0, a word that is not read, and the edges
+/// south, north, west and east". A number is a u16: of its word the lower half counts.
+fn ground(item: &[u32]) -> Ground {
+    if item[2] == 0 {
+        return Ground::Area(item[3] as u16);
+    }
+    let edge = |place: usize| item[place] as i32;
+    Ground::Box { south: edge(4), north: edge(5), west: edge(6), east: edge(7) }
+}
+
 #[cfg(test)]
 mod tests {
     use super::super::areas::{cell_at, one_cell, one_row, over};
     use super::*;
-    use crate::reference::Ground;
 
     /// The licence of holding 10.
     fn one_licence() -> Vec<Licence> {
@@ -206,5 +286,40 @@ mod tests {
                           footprint 0\n needed 4\n mask 00000.\n unchanged 3\n\
                           footprint 0\n refused 7\n mask ....\n unchanged 9\n";
         assert_eq!(lines(&case, &mut one_licence()), holding_10);
+    }
+
+    /// A list with a mask of 6 bytes and a table of 9 entries.
+    fn list(map: Vec<u8>, unchanged_from: u16, items: &[[u32; ITEM]]) -> Case {
+        Case::List { map, mask: 6, table: 9, unchanged_from, words: items.concat() }
+    }
+
+    /// Grants as in holding 10, in which one licence needs 4 entries and two need none, and other calls.
+    const GRANT_1: [u32; ITEM] = [0, 1, 1, 0, 0, 10, 20, 40];
+    const GRANT_2: [u32; ITEM] = [0, 2, 1, 0, 0, 10, 20, 40];
+    const CANCEL_1: [u32; ITEM] = [1, 1, 0, 0, 0, 0, 0, 0];
+    const PROPOSE: [u32; ITEM] = [2, 0, 0, 0, 0, 0, 0, 0];
+    const FOOTPRINT: [u32; ITEM] = [3, 0, 0, 0, 0, 0, 0, 0];
+    const UNKNOWN: [u32; ITEM] = [4, 1, 0, 1, 0, 0, 0, 0];
+
+    #[test]
+    fn lists() {
+        // Refused: the first footprint by 13, the second grant by 9, the second cancellation by 11.
+        let calls = [FOOTPRINT, GRANT_1, FOOTPRINT, GRANT_1, GRANT_2, PROPOSE, FOOTPRINT, CANCEL_1, CANCEL_1];
+        let mut ledger = vec![Licence { call_sign: 7, ground: Ground::Area(1) }];
+        let accepted = lines(&list(one_row(), 4, &calls), &mut ledger);
+        assert_eq!(accepted, "list 72\n calls 9\n refused 3\n mask 00110.\n unchanged 5\n");
+        assert_eq!(ledger, [Licence { call_sign: 2, ground: over((0, 0), (2, 3)) }]);
+        // The proposal and all footprints are refused too: nothing is written.
+        let refused = lines(&list(vec![0], 0, &calls), &mut ledger);
+        assert_eq!(refused, "list 72\n calls 9\n refused 6\n mask ......\n unchanged 9\n");
+        assert_eq!(ledger, [Licence { call_sign: 2, ground: over((0, 0), (2, 3)) }]);
+    }
+
+    #[test]
+    fn a_list_ends_at_an_unknown_kind() {
+        let mut ledger = Vec::new();
+        let ended = lines(&list(one_row(), 4, &[GRANT_1, FOOTPRINT, UNKNOWN, CANCEL_1, PROPOSE]), &mut ledger);
+        assert_eq!(ended, "list 40\n calls 2\n refused 0\n mask 00100.\n unchanged 5\n");
+        assert_eq!(ledger, one_licence());
     }
 }

@@ -9,7 +9,7 @@ use crate::random::Random;
 use crate::reference::{self, Area, Ground};
 
 /// A table that is long enough for every area here.
-const LONG: u16 = 4_000;
+pub const LONG: u16 = 4_000;
 
 /// What a footprint is made with: a draw, the bytes of the mask and the entries of the table.
 #[derive(Clone, Copy)]
@@ -152,7 +152,8 @@ fn add_random(cases: &mut Cases, random: &mut Random) {
     outline(cases, &map, &[lent(draw, 45, needed), lent(draw, 42, table)]);
 }
 
-fn random_map(random: &mut Random) -> Vec<u8> {
+/// One area or two.
+pub fn random_map(random: &mut Random) -> Vec<u8> {
     let count = random.pick(&[1, 1, 2]);
     let grids = (1..=count).map(|number| {
         let weight = random.pick(&[1, 2, 65_535]);
@@ -180,7 +181,8 @@ fn any_people(random: &mut Random) -> People {
     (0..rows).map(|_| (0..columns).map(|_| place()).collect()).collect()
 }
 
-fn random_ground(random: &mut Random) -> Ground {
+/// An area of a random map, or mostly a box over some of its cells.
+pub fn random_ground(random: &mut Random) -> Ground {
     if random.once_in(4) {
         return Ground::Area(random.pick(&[1, 2]));
     }

@@ -142,7 +142,7 @@ fn random_cell(random: &mut Random) -> Cell {
 }
 
 /// The map cut somewhere, with a byte after it, with one byte replaced or with one bit turned over.
-fn damaged(random: &mut Random, map: Vec<u8>) -> Vec<u8> {
+pub fn damaged(random: &mut Random, map: Vec<u8>) -> Vec<u8> {
     let position = random.below(map.len());
     let byte = random.below(256) as u8;
     let turned = map[position] ^ (1 << random.below(8));
