@@ -99,6 +99,32 @@ module _ (m : Read (List Area)) (lines : List Licence) where
       tableOf (propose draw) = []
       tableOf (footprint draw mask table) = table
 
+-- ---- the call of an item, beside the same item with another table of that length
+
+abbrev callOf : Call → Item → Call
+callOf other (call c) = c
+callOf other unknown = other
+
+module _ (m : Read (List Area)) (lines : List Licence) (words : List ℕ) (at : ℕ) (mask table : List ℕ) (c : Call)
+    (is : itemAt words at mask table ≡ call c)
+  where
+    own-table : c ≡ lending table c
+    own-table = ap (callOf c) (sym is ∙ item-lending words at mask table table ∙ ap (itemLending table) is)
+
+    module _ (a : function c .Answer) (s : Saying (function c) a (AsDefined m lines c)) where
+      table-left : length (tableLeft c a table) ≡ length table
+      table-left = said-table m lines table c a own-table s
+
+      module _ (t : List ℕ) (size : length table ≡ length t) where
+        other-number : numberBy m lines (lending t c) ≡ function c .number a
+        other-number =
+            number-lending m lines t table (sym size) c ∙ ap (numberBy m lines) (sym own-table) ∙ sym (said-number m lines c a s)
+
+        other-mask : maskBy m lines (lending t c) mask ≡ maskLeft c a mask
+        other-mask =
+            mask-lending m lines mask t table (sym size) c ∙ ap (λ (d : Call). maskBy m lines d mask) (sym own-table)
+            ∙ sym (said-mask m lines c a mask s)
+
 -- ---- a list
 
 -- what was made of a list, as it is told
@@ -110,58 +136,48 @@ toldOf mask lines made = record {
   lines = ledger lines (calls made);
 }
 
-abbrev callOf : Call → Item → Call
-callOf other (call c) = c
-callOf other unknown = other
-
 module _ (m : Read (List Area)) (words table₀ : List ℕ) where
+  -- an item and what is told after it
+  abbrev itemThen : (n at : ℕ) (mask : List ℕ) → List Licence → Item → Told
+  itemThen n at mask lines item =
+      itemTold m mask lines item (λ c. toldFrom m words n (at + 8) (maskBy m lines c mask) table₀ (linesAfter lines c))
+
   list-told : (n at : ℕ) (mask table : List ℕ) (lines : List Licence) (made : List Made) → length table ≡ length table₀
       → Follows words at mask table made → Each (AsDefined m) lines made → length made ≤ n → (end : ℕ) → end ≡ at + 8 * length made
       → (length made < n → itemAt words end (masksLeft made mask) (tablesLeft made table) ≡ unknown)
       → toldFrom m words n at mask table₀ lines ≡ toldOf mask lines made
   list-told zero at mask table lines [] size f h within end e ends = refl
   list-told (suc n) at mask table lines [] size f h within end e ends =
-      let is : itemAt words at mask table₀ ≡ unknown =
-      item-lending words at mask table table₀ ∙ ap (itemLending table₀)
-      (subst (λ (k : ℕ). itemAt words k mask table ≡ unknown) (e ∙ (let z : at + 0 ≡ at = omega arith in z)) (ends (omega arith))) in
-      ap (λ (i : Item). itemTold m mask lines i
-      (λ c. toldFrom m words n (at + 8) (maskBy m lines c mask) table₀ (linesAfter lines c))) is
+      let here : end ≡ at = e ∙ (let z : at + 0 ≡ at = omega arith in z) in
+      let is = subst (λ (k : ℕ). itemAt words k mask table ≡ unknown) here (ends (omega arith)) in
+      ap (itemThen n at mask lines) (item-lending words at mask table table₀ ∙ ap (itemLending table₀) is)
   list-told zero at mask table lines (x ∷ made) size f h within end e ends = absurd (omega arith)
   list-told (suc n) at mask table lines (x ∷ made) size f h within end e ends =
       let c = x .call in
-      let own : c ≡ lending table c =
-      ap (callOf c) (sym (f .0) ∙ item-lending words at mask table table ∙ ap (itemLending table) (f .0)) in
-      let is : itemAt words at mask table₀ ≡ call (lending table₀ c) =
-      item-lending words at mask table table₀ ∙ ap (itemLending table₀) (f .0) in
-      let number : numberBy m lines (lending table₀ c) ≡ numberOf x =
-      number-lending m lines table₀ table (sym size) c ∙ ap (numberBy m lines) (sym own)
-      ∙ sym (said-number m lines c (x .answer) (h .0)) in
-      let left : maskBy m lines (lending table₀ c) mask ≡ maskLeft c (x .answer) mask =
-      mask-lending m lines mask table₀ table (sym size) c ∙ ap (λ (d : Call). maskBy m lines d mask) (sym own)
-      ∙ sym (said-mask m lines c (x .answer) mask (h .0)) in
-      let later : toldFrom m words n (at + 8) (maskLeft c (x .answer) mask) table₀ (linesAfter lines c)
-      ≡ toldOf (maskLeft c (x .answer) mask) (linesAfter lines c) made =
-      list-told n (at + 8) (maskLeft c (x .answer) mask) (tableLeft c (x .answer) table) (linesAfter lines c) made
-      (said-table m lines table c (x .answer) own (h .0) ∙ size) (f .1) (h .1) (omega arith) end (omega arith)
-      (λ below. ends (omega arith)) in
-      ap (λ (i : Item). itemTold m mask lines i
-      (λ d. toldFrom m words n (at + 8) (maskBy m lines d mask) table₀ (linesAfter lines d))) is
-      ∙ (λ j. oneMore (number j) (toldFrom m words n (at + 8) (left j) table₀ (lines-lending lines table₀ c j)))
+      let a = x .answer in
+      let left = table-left m lines words at mask table c (f .0) a (h .0) in
+      let number = other-number m lines words at mask table c (f .0) a (h .0) table₀ size in
+      let masks = other-mask m lines words at mask table c (f .0) a (h .0) table₀ size in
+      let later = list-told n (at + 8) (maskLeft c a mask) (tableLeft c a table) (linesAfter lines c) made (left ∙ size) (f .1) (h .1)
+      (omega arith) end (omega arith) (λ below. ends (omega arith)) in
+      ap (itemThen n at mask lines) (item-lending words at mask table table₀ ∙ ap (itemLending table₀) (f .0))
+      ∙ (λ j. oneMore (number j) (toldFrom m words n (at + 8) (masks j) table₀ (lines-lending lines table₀ c j)))
       ∙ ap (oneMore (numberOf x)) later
 
--- what `play` ensures tells its counts, the mask that it leaves and the licences in force, whatever bytes it is lent as a map
+-- what `play` ensures tells its counts, the mask that it leaves and the licences in force, whatever bytes it is lent as a map. Free are
+-- which places the licences take, and the entries of the table that footprints use
 pub play-pinned : (map words mask after table entries : List ℕ) (r : Played) → PlayDone map words mask after table entries r →
     let t = told (readMap map) words mask table in
     (r .calls ≡ t .calls) × (r .refused ≡ t .refused) × (after ≡ t .mask) × Holds (r .register) (t .lines)
 play-pinned map words mask after table entries r d =
-    let e : toldOf mask [] (d .made) ≡ told (readMap map) words mask table =
-    sym (list-told (readMap map) words table (length words / 8) 0 mask table [] (d .made) refl (d .follows) (d .claim .defined)
-    (d .within) (8 * length (d .made)) (omega arith)
-    (λ below. (λ j. itemAt words (8 * length (d .made)) (sym (d .masks) j) (sym (d .tables) j)) ∙ d .ends below)) in (
-      d .counted ∙ ap (λ (t : Told). t .calls) e,
-      d .refused ∙ ap (λ (t : Told). t .refused) e,
-      d .masks ∙ ap (λ (t : Told). t .mask) e,
-      subst (Holds (r .register)) (ap (λ (t : Told). t .lines) e) (d .register),
+    let made = d .made in
+    let e = list-told (readMap map) words table (length words / 8) 0 mask table [] made refl (d .follows) (d .claim .defined) (d .within)
+    (8 * length made) (omega arith)
+    (λ below. (λ j. itemAt words (8 * length made) (sym (d .masks) j) (sym (d .tables) j)) ∙ d .ends below) in (
+      d .counted ∙ ap (λ (t : Told). t .calls) (sym e),
+      d .refused ∙ ap (λ (t : Told). t .refused) (sym e),
+      d .masks ∙ ap (λ (t : Told). t .mask) (sym e),
+      subst (Holds (r .register)) (ap (λ (t : Told). t .lines) (sym e)) (d .register),
     )
 
 -- so over no bytes at all, which 1 refuses, a proposal is told as refused: an answer that tells 0 refusals there doesn't meet the contract
