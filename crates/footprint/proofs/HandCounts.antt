@@ -1,9 +1,11 @@
 -- Document 01, "Holdings to prove by hand count": the table of twelve, and the table of refusals, hold of the definitions. Assumes nothing.
+use Prim.Native.Nat.{ℕ}
 use mathlib.Core.Path.{_≡_, refl}
-use mathlib.Core.List.{map}
+use mathlib.Core.List.{map, []}
 use Rattle.lists.specs.Sums.{someBelow, sumBelow}
 use Rattle.lists.specs.Filters.{filter, upTo, foremost, firstOr}
 use Rattle.map.specs.Answers.{locate}
+use Rattle.coverage.specs.Cover.{holdingsOf}
 use Rattle.coverage.specs.Blocks.{remainder, roundsUp, wholeBlocks, partial, value, size}
 use Rattle.subset.specs.Sets as sets
 use Rattle.subset.specs.Rule.{smallest, greatest}
@@ -23,11 +25,13 @@ use Rattle.proposal.specs.Choices.{
 }
 use Rattle.proposal.specs.Best.{isAllWhole, whiteSpace, whitePer, rank, ahead, best, tied, drawn, chosen}
 use Rattle.proposal.specs.Answer.{kindOf, getsBy, firstMark, laterMarks, given, refusedBy, answerOf, proposal, proposalOn}
+use Rattle.proposal.proofs.Theorems.{refused-by}
 use Rattle.ring.specs.Ring.{above, below, left, right, someSide, allSides, around, outside, edge, ring}
 use Rattle.rounds.specs.Footprint as outline
 use Rattle.footprint.specs.Footprint.{footprintOf, footprintBy, footprintOn}
 use Rattle.footprint.specs.Holdings.{rows, comes, expected}
 use Rattle.footprint.specs.Refusals as refusals
+use Rattle.footprint.specs.Refusals.{cellAreas, areaLicences}
 
 -- both tables, evaluated
 tables : (map comes rows ≡ map expected rows) × (map refusals.comes refusals.rows ≡ map refusals.expected refusals.rows)
@@ -45,3 +49,8 @@ hand-counts = tables .0
 
 pub refused-counts : map refusals.comes refusals.rows ≡ map refusals.expected refusals.rows
 refused-counts = tables .1
+
+-- "12: more than 20 partial areas": with 20 there is a proposal, whatever the draw. Its choices are too many to be listed here
+pub twenty-partial : (draw : ℕ) → proposal (holdingsOf (areaLicences 20) (cellAreas 20 [])) draw .refused ≡ 0
+unfolding partials filter partial roundsUp remainder
+twenty-partial draw = refused-by (holdingsOf (areaLicences 20) (cellAreas 20 [])) draw

@@ -15,7 +15,7 @@ use Rattle.footprint.specs.Holdings.{oneRow, boxed}
 
 -- ---- maps and licences
 
--- n areas of one cell with two people, numbered downward from n, and a licence for each: half a block is held in every one
+-- areas 1 to n, ascending, ahead of others: one cell with two people each; and a licence for each, so that half a block is held in it
 abbrev pub cellAreas : (n : ℕ) → List Area → List Area
 cellAreas zero later = later
 cellAreas (suc n) later = cellAreas n (record {
@@ -47,7 +47,7 @@ pub data Row : Type 0 where
 
 abbrev pub rows : List Row
 rows =
-    -- 1 to 5: the map's fault, with nothing to lend
+    -- 1 to 5: the map's fault, with nothing to lend and with enough
     asks (bad 1) (boxes 1) 0 0 1 (reply 1 0 0) [] ∷
     asks (bad 5) (boxes 1) 5 5 5 (reply 5 0 0) (9 ∷ 9 ∷ 9 ∷ 9 ∷ 9 ∷ []) ∷
     -- 12: 21 partial areas, with nothing to lend and with enough
