@@ -46,7 +46,8 @@ module _ (draw : ℕ) {A : Type 0} (number : A → ℕ) (Says : A → Proposal �
     (Pre : Lfts 1 → OnMap → Type 0) (Post : Lfts 1 → OnMap → A → OnMap → Type 0)
   where
     pub proposing-lawful : ((lives : Lfts 1) (given : OnMap) → Pre lives given) →
-        ((lives : Lfts 1) (lies : Where) (map : List ℕ) (r : Register) (a : A) → Post lives (onMap lies map r draw) a (onMap lies map r draw) →
+        ((lives : Lfts 1) (lies : Where) (map : List ℕ) (r : Register) (a : A) →
+        Post lives (onMap lies map r draw) a (onMap lies map r draw) →
         Says a (proposalOn (readMap map) (inForce (r .places)) draw)) →
         ((a : A) (p : Proposal) → Says a p → number a ≡ p .refused) → Lawful (proposing draw number Says Pre Post)
     proposing-lawful asks post numbered = record {

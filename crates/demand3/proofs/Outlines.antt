@@ -67,7 +67,8 @@ module _ (s : List ℕ) (areas : List Area) (e : ℕ) (reads : readMap s ≡ goo
     holds : (q : OneShare areas lines p) → AreaHolds s (q .area)
     holds q = locates s (q .area .head .number) areas (h .each) (q .area) (partial q .located) .1
 
-    by-case : Done comes → Case areas lines draw (length mask) (length table) comes → FootprintRight areas lines draw mask table r after entries
+    by-case : Done comes → Case areas lines draw (length mask) (length table) comes →
+        FootprintRight areas lines draw mask table r after entries
     by-case d (refuses n z k q) =
         let x = subst Done q d in
         let is : r .refused ≡ n = ap (λ (w : Reply). w .refused) (x .answer) in

@@ -31,7 +31,8 @@ abbrev pub onMap : Where → (map : List ℕ) → Register → (draw : ℕ) → 
 onMap lies map r draw = (lent lies map, (r, (draw, tt)))
 
 -- what it ensures, lent the map from somewhere for some time
-pub record Proposes {A : Type 0} (Post : Lfts 1 → OnMap → A → OnMap → Type 0) (map : List ℕ) (r : Register) (draw : ℕ) (a : A) : Type 0 where
+pub record Proposes {A : Type 0} (Post : Lfts 1 → OnMap → A → OnMap → Type 0) (map : List ℕ) (r : Register) (draw : ℕ) (a : A)
+    : Type 0 where
   pub lives : Lfts 1
   pub lies : Where
   pub post : Post lives (onMap lies map r draw) a (onMap lies map r draw)

@@ -40,7 +40,8 @@ module _ (words : List ℕ) (at : ℕ) (mask table : List ℕ) where
       → call (grant (record { «call_sign» = getD words (at + 1) 0; ground = g })) ≡ itemAt words at mask table
   unfolding itemAt
   item-grant k g e =
-      rw (eq-eqb (getD words at 0) 0 k) (ap (λ (x : Ground). call (grant (record { «call_sign» = getD words (at + 1) 0; ground = x }))) e)
+      rw (eq-eqb (getD words at 0) 0 k)
+      (ap (λ (x : Ground). call (grant (record { «call_sign» = getD words (at + 1) 0; ground = x }))) e)
 
   pub item-cancel : getD words at 0 ≡ 1 → call (cancel (getD words (at + 1) 0)) ≡ itemAt words at mask table
   unfolding itemAt

@@ -164,8 +164,8 @@ module _ (m : Read (List Area)) (words table₀ : List ℕ) where
       ∙ (λ j. oneMore (number j) (toldFrom m words n (at + 8) (masks j) table₀ (lines-lending lines table₀ c j)))
       ∙ ap (oneMore (numberOf x)) later
 
--- what `play` ensures tells its counts, the mask that it leaves and the licences in force, whatever bytes it is lent as a map. Free are
--- which places the licences take, and the entries of the table that footprints use
+-- what `play` ensures tells its counts, the mask that it leaves and the licences in force, whatever bytes it is lent as a map. Of the table
+-- its run tells all but the entries that a footprint uses (`Leaves`)
 pub play-pinned : (map words mask after table entries : List ℕ) (r : Played) → PlayDone map words mask after table entries r →
     let t = told (readMap map) words mask table in
     (r .calls ≡ t .calls) × (r .refused ≡ t .refused) × (after ≡ t .mask) × Holds (r .register) (t .lines)
