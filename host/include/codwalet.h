@@ -21,22 +21,48 @@
 extern "C" {
 #endif
 
-/* Refusals, by the numbers of document 01; 0 is no refusal. */
+/*
+ * The version of this interface. It is another number wherever a struct, a function or a field's meaning is not what it was;
+ * codwalet_version() answers the archive's.
+ */
+#define CODWALET_VERSION 1
+
+/* Limits, each the largest value. */
+#define CODWALET_LIMIT 64             /* licences in force: places of a register */
+#define CODWALET_AREAS 32             /* areas of a map */
+#define CODWALET_PARTIAL_AREAS 20     /* partial areas of a proposal */
+#define CODWALET_AREA_NUMBER 416      /* the number of an area, from 1 */
+#define CODWALET_WEIGHT 65535         /* the weight of an area, from 1 */
+#define CODWALET_SIDE 128             /* rows, and columns, of an area, from 1 */
+#define CODWALET_PEOPLE 1000000       /* people of a cell, from 0 */
+#define CODWALET_POPULATION 40000000  /* people of an area, from 1 */
+#define CODWALET_LATITUDE 32400000    /* and its negative the smallest */
+#define CODWALET_LONGITUDE 64800000   /* and its negative the smallest */
+
+#define CODWALET_LARGEST_MASK (CODWALET_SIDE * CODWALET_SIDE) /* bytes of a mask that is long enough for every area */
+
+/* Refusals, by the numbers of document 01 (docs/RULES.md): number, name and words. 0 is no refusal. */
+#define CODWALET_REFUSALS(X) \
+    X(1, MAP_ENDS, "the map ends before or inside a field that is due") \
+    X(2, MAP_LIMIT, "a field of the map is outside its limits, or a bit is set past the last column") \
+    X(3, MAP_EXTRA, "bytes follow the map's last area") \
+    X(4, MAP_ORDER, "an area's number is not above the one before") \
+    X(5, MAP_POPULATION, "an area's population is 0 or above 40,000,000") \
+    X(6, ILL_FORMED, "the call sign is 0, or the ground is ill-formed") \
+    X(7, MASK_SHORT, "the mask is shorter than the area's rows x columns") \
+    X(8, TABLE_SHORT, "the table is too short") \
+    X(9, IN_FORCE, "the call sign is in force already") \
+    X(10, FULL, "64 licences are in force") \
+    X(11, NOT_IN_FORCE, "the call sign is not in force") \
+    X(12, TOO_MANY, "more than 20 areas are partial") \
+    X(13, NOT_ONE_PART, "the proposal has no area with a share, so there is no footprint")
+
+/* CODWALET_MAP_ENDS is 1, and so on. */
 enum {
-    CODWALET_ACCEPTED = 0,
-    CODWALET_MAP_ENDS = 1,        /* the map ends before or inside a field that is due */
-    CODWALET_MAP_LIMIT = 2,       /* a field of the map outside its limits, or a bit past the last column */
-    CODWALET_MAP_EXTRA = 3,       /* bytes after the map's last area */
-    CODWALET_MAP_ORDER = 4,       /* an area's number is not above the one before */
-    CODWALET_MAP_POPULATION = 5,  /* an area's population is 0 or above 40,000,000 */
-    CODWALET_ILL_FORMED = 6,      /* grant: call sign 0, or an ill-formed ground */
-    CODWALET_MASK_SHORT = 7,      /* footprint: the mask is shorter than rows x columns */
-    CODWALET_TABLE_SHORT = 8,     /* footprint: the table is too short; `needed` says how many entries it takes */
-    CODWALET_IN_FORCE = 9,        /* grant: the call sign is in force already */
-    CODWALET_FULL = 10,           /* grant: 64 licences are in force */
-    CODWALET_NOT_IN_FORCE = 11,   /* cancel: the call sign is not in force */
-    CODWALET_TOO_MANY = 12,       /* proposal, footprint: more than 20 partial areas */
-    CODWALET_NOT_ONE_PART = 13    /* footprint: the proposal isn't of kind 3 */
+#define CODWALET_NAMED(number, name, words) CODWALET_##name = number,
+    CODWALET_REFUSALS(CODWALET_NAMED)
+#undef CODWALET_NAMED
+    CODWALET_ACCEPTED = 0
 };
 
 /* The ground of a licence. Any other kind is an ill-formed ground, which covers nothing. */
@@ -60,18 +86,15 @@ enum {
     CODWALET_GETS_SHARE = 3
 };
 
-#define CODWALET_LIMIT 64 /* places of a register */
-#define CODWALET_AREAS 32 /* areas of a map, at most */
-
 /* A licence, 24 bytes. `unused` is not read. */
 typedef struct {
     uint32_t call_sign;           /* not 0 */
-    uint16_t area;                /* 1 to 416 */
+    uint16_t area;                /* 1 to CODWALET_AREA_NUMBER */
     uint8_t kind;                 /* CODWALET_GROUND_.. */
     uint8_t unused;
-    int32_t south;                /* south < north, both within +-32,400,000 */
+    int32_t south;                /* south < north, both within +-CODWALET_LATITUDE */
     int32_t north;
-    int32_t west;                 /* west < east, both within +-64,800,000 */
+    int32_t west;                 /* west < east, both within +-CODWALET_LONGITUDE */
     int32_t east;
 } codwalet_licence;
 
@@ -139,6 +162,9 @@ typedef struct {
     uint64_t needed;              /* at refusal 8, the entries that the table must have */
 } codwalet_outline;
 
+/* The version of the interface that the archive has. */
+uint32_t codwalet_version(void);
+
 /* The register with no licence in force. */
 codwalet_register codwalet_empty(void);
 
@@ -170,6 +196,22 @@ codwalet_proposal codwalet_propose(const uint8_t *map, size_t map_length, codwal
  */
 codwalet_outline codwalet_footprint(const uint8_t *map, size_t map_length, codwalet_register current, uint32_t draw,
                                     uint8_t *mask, size_t mask_length, uint16_t *table, size_t table_length);
+
+/* The words of a refusal; "accepted" for 0, and NULL where no refusal has the number. */
+static inline const char *codwalet_refusal_words(uint32_t refusal)
+{
+    switch (refusal) {
+    case CODWALET_ACCEPTED:
+        return "accepted";
+#define CODWALET_CASE(number, name, words) \
+    case number: \
+        return words;
+        CODWALET_REFUSALS(CODWALET_CASE)
+#undef CODWALET_CASE
+    default:
+        return NULL;
+    }
+}
 
 #ifdef __cplusplus
 }

@@ -748,10 +748,26 @@ static void empty_buffers(void)
     EQUAL(codwalet_propose(NULL, 0, h.current, 0).refusal, CODWALET_MAP_ENDS);
 }
 
+/* The header's version is the archive's, and each refusal has words of its own. */
+static void version_and_words(void)
+{
+    EQUAL(codwalet_version(), CODWALET_VERSION);
+    EQUAL(CODWALET_LARGEST_MASK, 128 * 128);
+    for (uint32_t i = CODWALET_ACCEPTED; i <= CODWALET_NOT_ONE_PART; i++) {
+        CHECK(codwalet_refusal_words(i) != NULL);
+        for (uint32_t j = CODWALET_ACCEPTED; j < i; j++)
+            CHECK(strcmp(codwalet_refusal_words(i), codwalet_refusal_words(j)) != 0);
+    }
+    CHECK(strcmp(codwalet_refusal_words(CODWALET_FULL), "64 licences are in force") == 0);
+    CHECK(codwalet_refusal_words(CODWALET_NOT_ONE_PART + 1) == NULL);
+    CHECK(codwalet_refusal_words(UINT32_MAX) == NULL);
+}
+
 static const struct {
     const char *name;
     void (*run)(void);
 } parts[] = {
+    {"version and words", version_and_words},
     {"grants and cancellations", grants_and_cancellations},
     {"refusals of the register", refusals_of_the_register},
     {"an accepted map", accepted_map},

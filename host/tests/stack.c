@@ -11,8 +11,8 @@
 #include <string.h>
 #include <ucontext.h>
 
-#define SIDE 128
-#define PARTIAL 20
+#define SIDE CODWALET_SIDE
+#define PARTIAL CODWALET_PARTIAL_AREAS
 #define ENTRIES 1000000
 #define STACK ((size_t)1 << 20)
 #define UNTOUCHED 0xA7
@@ -20,7 +20,7 @@
 static uint8_t map[1 + CODWALET_AREAS * (8 + SIDE * (SIDE / 8 + SIDE * 12))];
 static size_t length;
 static codwalet_register current;
-static uint8_t mask[SIDE * SIDE];
+static uint8_t mask[CODWALET_LARGEST_MASK];
 static uint16_t table[ENTRIES];
 
 static void put(uint32_t value, int bytes)
@@ -61,6 +61,7 @@ static void hold_part(uint32_t number)
 /* Each call leaves its refusal here. */
 static uint32_t refusal;
 
+static void version(void) { refusal = codwalet_version() - CODWALET_VERSION; }
 static void empty(void) { refusal = codwalet_empty().places[0].call_sign; }
 static void grant(void)
 {
@@ -83,6 +84,7 @@ static const struct {
     void (*call)(void);
     size_t most; /* KiB, by the header */
 } calls[] = {
+    {"version", version, 32},
     {"empty", empty, 32},
     {"grant", grant, 32},
     {"cancel", cancel, 32},

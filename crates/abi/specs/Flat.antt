@@ -17,6 +17,10 @@ use Rattle.abi.specs.declared.Given.{Given}
 use Rattle.abi.specs.declared.FlatProposal.{FlatProposal}
 use Rattle.abi.specs.declared.Outline.{Outline}
 
+-- the version of the interface: another number wherever a struct, a function or a field's meaning is not what it was
+abbrev pub version : ℕ
+version = 1
+
 -- ---- "When an area is looked up by its number"
 
 -- a map that is refused, or lacks the number

@@ -22,7 +22,7 @@ ghost use Rattle.proposal.specs.Answer.{proposalOn};
 ghost use Rattle.proposal.specs.Contracts.{getsMeans, areaMeans};
 ghost use Rattle.footprint.specs.Footprint.{footprintOn};
 ghost use Rattle.footprint.specs.Contracts.{means};
-ghost use Rattle.abi.specs.Flat.{noArea, flatCovered, flatHeld, getsNumber, getsAmount, flatGiven, flatProposal, outlineMeans};
+ghost use Rattle.abi.specs.Flat.{version, noArea, flatCovered, flatHeld, getsNumber, getsAmount, flatGiven, flatProposal, outlineMeans};
 ghost use Rattle.abi.specs.Contracts.{FoundDone, OutlineDone};
 
 // An area of a map: its head, its population, and where its rows stand. All 0 where the map is refused or lacks the number.
@@ -82,6 +82,14 @@ pub struct Outline {
     pub refusal: u32,
     pub area: u32,
     pub needed: u64,
+}
+
+// The version of the interface that these functions have: callers compare it with the one that they were written for.
+#[no_mangle]
+pub extern "C" fn codwalet_version() -> u32
+    ensures { λ r. ⌜ r ≡ version ⌝ }
+{
+    1
 }
 
 // The register with no licence in force.
