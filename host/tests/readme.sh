@@ -1,6 +1,6 @@
 #!/bin/sh
-# Compiles the C and the Rust example of README.md as they stand there, and runs both on the map of examples/two-areas.csv.
-# The lines around an example are the least that make a program of it.
+# Compiles the C and the Rust example of README.md as they stand there, and runs both on the map of examples/two-areas.csv; runs its
+# plan; and holds its sample output to what the example prints. The lines around an example are the least that make a program of it.
 set -e
 cd "$(dirname "$0")/../.."
 folder=target/readme
@@ -32,7 +32,7 @@ END
     echo 'fn main() -> Result<(), Box<dyn std::error::Error>> {'
     example rust
     cat << 'END'
-println!("area {}, {} licence left", footprint.area, register.licences().count());
+println!("area {}, {} licence left", footprint.area, register.len());
 Ok(())
 }
 END
@@ -43,10 +43,22 @@ rustc --edition 2024 -D warnings "$folder/example.rs" -o "$folder/rust" -L nativ
     -L dependency=target/cargo/release/deps --extern codwalet=target/cargo/release/libcodwalet.rlib
 target/cargo/release/codwalet map build examples/two-areas.csv "$folder/region.map" > "$folder/built"
 
+# The lines that are shown of what a plan prints are lines of it.
+example text > "$folder/shown"
+[ "$(wc -l < "$folder/shown")" -gt 5 ]
+grep -Fxv -f examples/expected/two-areas.txt "$folder/shown" && exit 1
+
+# Nothing of the plan is refused or a mistake.
+awk '/^## / { on = $0 == "## For planners" } on && sub(/^    /, "")' README.md > "$folder/readme.plan"
+cp examples/two-areas.csv "$folder"
+(cd "$folder" && ../cargo/release/codwalet run --strict readme.plan > planned)
+grep -q 'footprint 0 svg two-areas.svg *area 212' "$folder/planned"
+grep refused "$folder/planned" && exit 1
+
 # By hand: the box covers 4,070 of the 20,427 people of area 143, which is partial alone in C. In Rust area 212 is held too, and T,
 # 407,000 + 899,700, leaves less white space in its M of 1,799,400 than in the 4,085,400 of area 143.
 cd "$folder"
 ./c < region.map > printed
 ./rust >> printed
-printf '%s\n' 'kind 3, area 143' 'kind 3, 2 areas' 'area 212, 1 licence left' | diff - printed
-echo "readme: both examples run"
+printf '%s\n' 'kind 3, area 143' 'kind 3, 2 areas, T 1,306,700 weighted MHz-pops' 'area 212, 1 licence left' | diff - printed
+echo "readme: the examples run"

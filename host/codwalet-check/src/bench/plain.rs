@@ -1,0 +1,52 @@
+//! The engine's work written directly in Rust, without a proof: what the benchmarks hold its times against. The bytes
+//! that go in and the answers that come out are those of the C interface. It is written to be quick: a map is read
+//! once, several cells at a time; the search puts two halves of the partial areas together; a ring goes on from the
+//! ring before.
+
+mod coverage;
+mod footprint;
+mod last_ring;
+mod map;
+mod proposal;
+mod register;
+mod row;
+mod search;
+
+use codwalet::raw::{Outline, Proposal, Register};
+use coverage::Grounds;
+pub use register::{cancel, grant};
+
+// The refusals' numbers.
+const MAP_ENDS: u32 = 1;
+const MAP_LIMIT: u32 = 2;
+const MAP_EXTRA: u32 = 3;
+const MAP_ORDER: u32 = 4;
+const MAP_POPULATION: u32 = 5;
+const ILL_FORMED: u32 = 6;
+const MASK_SHORT: u32 = 7;
+const TABLE_SHORT: u32 = 8;
+const IN_FORCE: u32 = 9;
+const FULL: u32 = 10;
+const NOT_IN_FORCE: u32 = 11;
+const TOO_MANY: u32 = 12;
+const NOT_ONE_PART: u32 = 13;
+
+/// 0 if the map is accepted, else its refusal.
+#[inline(never)]
+pub fn check_map(map: &[u8]) -> u32 {
+    map::read(map, &Grounds::default()).err().unwrap_or(0)
+}
+
+/// The proposal with a draw.
+#[inline(never)]
+pub fn propose(map: &[u8], register: Register, draw: u32) -> Proposal {
+    let areas = map::read(map, &Grounds::of(&register));
+    areas.and_then(|areas| proposal::choose(&areas, draw)).unwrap_or_else(proposal::refused)
+}
+
+/// The footprint of the partial area of the proposal with a draw.
+#[inline(never)]
+pub fn footprint(map: &[u8], register: Register, draw: u32, mask: &mut [u8], table: &mut [u16]) -> Outline {
+    let outline = footprint::outline(map, &Grounds::of(&register), draw, mask, table);
+    outline.unwrap_or_else(|refusal| Outline { refusal, ..Outline::default() })
+}

@@ -1,0 +1,57 @@
+//! Grant and cancellation. A register is passed as C passes it, which costs a copy.
+
+use super::{FULL, ILL_FORMED, IN_FORCE, NOT_IN_FORCE};
+use codwalet::limits::{AREA_NUMBER, LATITUDE, LONGITUDE};
+use codwalet::raw::{GROUND_AREA, GROUND_BOX, Licence, Register, Step};
+
+/// The register with a licence granted. Refused by 6, 9 or 10.
+#[inline(never)]
+pub extern "C" fn grant(mut current: Register, licence: Licence) -> Step {
+    let refusal = if licence.call_sign == 0 || !ground_formed(&licence) {
+        ILL_FORMED
+    } else if current.places.iter().any(|place| place.call_sign == licence.call_sign) {
+        IN_FORCE
+    } else if let Some(free) = current.places.iter_mut().find(|place| place.call_sign == 0) {
+        *free = granted(&licence);
+        0
+    } else {
+        FULL
+    };
+    Step { next: current, refusal }
+}
+
+/// The register with a licence cancelled. Refused by 11.
+#[inline(never)]
+pub extern "C" fn cancel(mut current: Register, call_sign: u32) -> Step {
+    let mut refusal = NOT_IN_FORCE;
+    for place in &mut current.places {
+        if call_sign != 0 && place.call_sign == call_sign {
+            *place = Licence::default();
+            refusal = 0;
+        }
+    }
+    Step { next: current, refusal }
+}
+
+/// The licence as a register holds it: what its ground has no use for is 0.
+fn granted(&Licence { call_sign, area, kind, south, north, west, east, .. }: &Licence) -> Licence {
+    match kind {
+        GROUND_AREA => Licence { call_sign, area, kind, ..Licence::default() },
+        _ => Licence { call_sign, kind, south, north, west, east, ..Licence::default() },
+    }
+}
+
+fn ground_formed(licence: &Licence) -> bool {
+    match licence.kind {
+        GROUND_AREA => (1..=AREA_NUMBER).contains(&licence.area),
+        GROUND_BOX => {
+            -LATITUDE <= licence.south
+                && licence.south < licence.north
+                && licence.north <= LATITUDE
+                && -LONGITUDE <= licence.west
+                && licence.west < licence.east
+                && licence.east <= LONGITUDE
+        }
+        _ => false,
+    }
+}

@@ -1,0 +1,155 @@
+//! The reference's answers in the form of the C interface, to be compared field by field.
+
+use crate::reference::{self, Area, Gets, Given, Ground, Licence};
+use codwalet::limits::{AREAS, LICENCES};
+use codwalet::raw::{self, GROUND_AREA, GROUND_BOX, Register};
+
+/// The register with all bytes 0.
+pub const NO_LICENCE: Register = Register { places: [FREE; LICENCES] };
+
+/// A place with all bytes 0.
+pub const FREE: raw::Licence =
+    raw::Licence { call_sign: 0, area: 0, kind: 0, unused: 0, south: 0, north: 0, west: 0, east: 0 };
+
+/// A licence of the C interface as document 01 has it. A ground of another kind is ill-formed and covers nothing, as
+/// area number 0 does.
+pub fn licence(raw: &raw::Licence) -> Licence {
+    let ground = match raw.kind {
+        GROUND_AREA => Ground::Area(raw.area),
+        GROUND_BOX => Ground::Box { south: raw.south, north: raw.north, west: raw.west, east: raw.east },
+        _ => Ground::Area(0),
+    };
+    Licence { call_sign: raw.call_sign, ground }
+}
+
+/// A licence as the C interface writes it: what its ground has no use for is 0.
+pub fn raw_licence(licence: &Licence) -> raw::Licence {
+    let call_sign = licence.call_sign;
+    match licence.ground {
+        Ground::Area(area) => raw::Licence { call_sign, area, kind: GROUND_AREA, ..FREE },
+        Ground::Box { south, north, west, east } => {
+            raw::Licence { call_sign, kind: GROUND_BOX, south, north, west, east, ..FREE }
+        }
+    }
+}
+
+/// The licences in force of a register, by place. "A place with call sign 0 is free, and nothing else of it counts."
+pub fn lines(register: &Register) -> Vec<Licence> {
+    register.places.iter().filter(|place| place.call_sign != 0).map(licence).collect()
+}
+
+/// The refusal of a map, or 0.
+pub fn check_map(map: &[u8]) -> u32 {
+    reference::read_map(map).map_or_else(|fault| fault.number, |_| 0)
+}
+
+fn with_number(map: &[u8], number: u16) -> Result<Option<Area>, u32> {
+    let areas = reference::read_map(map).map_err(|fault| fault.number)?;
+    Ok(areas.into_iter().find(|area| area.number == number))
+}
+
+/// The areas of an accepted map with their numbers, each as a look-up has it; none of a refused one.
+pub fn areas(map: &[u8], look_up: impl Fn(u16) -> raw::Area) -> Vec<(u16, raw::Area)> {
+    let areas = reference::read_map(map).unwrap_or_default();
+    areas.iter().map(|area| (area.number, look_up(area.number))).collect()
+}
+
+/// The area with a number.
+pub fn look_up(map: &[u8], number: u16) -> raw::Area {
+    match with_number(map, number) {
+        Err(refusal) => raw::Area { refusal, ..raw::Area::default() },
+        Ok(None) => raw::Area::default(),
+        Ok(Some(area)) => raw::Area {
+            refusal: 0,
+            weight: area.weight,
+            rows: area.rows as u64,
+            columns: area.columns as u64,
+            population: area.population(),
+            offset: area.start as u64,
+            length: (area.end - area.start) as u64,
+        },
+    }
+}
+
+/// The people covered in the area with a number.
+pub fn coverage(map: &[u8], lines: &[Licence], number: u16) -> raw::Covered {
+    match with_number(map, number) {
+        Err(refusal) => raw::Covered { refusal, ..raw::Covered::default() },
+        Ok(None) => raw::Covered::default(),
+        Ok(Some(area)) => raw::Covered { people: reference::covered(lines, &area), ..raw::Covered::default() },
+    }
+}
+
+/// The blocks of the area with a number.
+pub fn blocks(map: &[u8], lines: &[Licence], number: u16) -> raw::Held {
+    match with_number(map, number) {
+        Err(refusal) => raw::Held { refusal, ..raw::Held::default() },
+        Ok(None) => raw::Held::default(),
+        Ok(Some(area)) => {
+            let reference::Blocks { whole, value, size } = reference::blocks(lines, &area);
+            raw::Held { whole, value, size, ..raw::Held::default() }
+        }
+    }
+}
+
+/// A proposal without areas: what a refused one is.
+const NO_PROPOSAL: raw::Proposal = raw::Proposal {
+    refusal: 0,
+    kind: 0,
+    tied: 0,
+    count: 0,
+    target: 0,
+    white_space: 0,
+    areas: [raw::Given { number: 0, gets: 0, blocks: 0, share: 0 }; AREAS],
+};
+
+fn raw_given(given: &Given) -> raw::Given {
+    let (gets, share) = match given.gets {
+        Gets::Nothing => (0, 0),
+        Gets::Whole => (1, 0),
+        Gets::RoundedUp => (2, 0),
+        Gets::Share(share) => (3, share),
+    };
+    raw::Given { number: u32::from(given.number), gets, blocks: given.blocks, share }
+}
+
+/// The proposal with a draw.
+pub fn propose(map: &[u8], lines: &[Licence], draw: u32) -> raw::Proposal {
+    let areas = reference::read_map(map).map_err(|fault| fault.number);
+    let proposal = match areas.and_then(|areas| reference::propose(&areas, lines, draw)) {
+        Err(refusal) => return raw::Proposal { refusal, ..NO_PROPOSAL },
+        Ok(proposal) => proposal,
+    };
+    let mut raw = raw::Proposal {
+        kind: proposal.kind,
+        tied: proposal.tied,
+        count: proposal.areas.len() as u64,
+        target: proposal.target,
+        white_space: proposal.white_space,
+        ..NO_PROPOSAL
+    };
+    for (place, given) in raw.areas.iter_mut().zip(&proposal.areas) {
+        *place = raw_given(given);
+    }
+    raw
+}
+
+/// The footprint with a draw, into a mask, and how many entries of the table may have been used.
+pub fn footprint(map: &[u8], lines: &[Licence], draw: u32, mask: &mut [u8], entries: usize) -> (raw::Outline, usize) {
+    match reference::footprint(map, lines, draw, mask, entries) {
+        Ok(made) => (raw::Outline { area: u32::from(made.number), ..raw::Outline::default() }, made.used),
+        Err(refused) => (raw::Outline { refusal: refused.number, area: 0, needed: refused.needed as u64 }, 0),
+    }
+}
+
+/// How long a mask and a table the footprint with a draw needs; none where it is refused before either is looked at.
+pub fn needs(map: &[u8], lines: &[Licence], draw: u32) -> (usize, usize) {
+    let proposal = propose(map, lines, draw);
+    let Some(given) = proposal.areas.iter().find(|given| given.gets == 3) else {
+        return (0, 0);
+    };
+    let area = look_up(map, given.number as u16);
+    let places = (area.rows * area.columns) as usize;
+    let (outline, _) = footprint(map, lines, draw, &mut vec![0; places], 0);
+    (places, outline.needed as usize)
+}

@@ -1,0 +1,322 @@
+//! The comparison bites: the reference itself, with one mistake at a time, is seen to differ.
+
+mod plain;
+
+use std::time::Duration;
+
+use super::answers::{self, FREE, NO_LICENCE};
+use super::case::Case;
+use super::compare::{self, Difference};
+use super::engine::{Buffers, Engine, Lent};
+use super::kinds::KINDS;
+use super::run::{MOST_DIFFERENCES, Test};
+use super::seen::Seen;
+use super::shrink::shrink;
+use crate::random::Random;
+use crate::reference;
+use codwalet::raw::{Area, Covered, Held, Licence, Outline, Proposal, Register, Step};
+
+/// Declares the mistakes, and lists them all but `Nothing`.
+macro_rules! mistakes {
+    ($($mistake:ident,)*) => {
+        /// What is wrong with an engine.
+        #[derive(Clone, Copy, Debug, PartialEq, Eq)]
+        enum Mistake {
+            Nothing,
+            $($mistake,)*
+        }
+
+        use Mistake::*;
+
+        const MISTAKES: &[Mistake] = &[$($mistake,)*];
+    };
+}
+
+mistakes! {
+    EmptyHoldsALicence,
+    GrantRefusesAll,
+    GrantTakesTwice,
+    GrantTakesTwoPlaces,
+    GrantTakesAPlaceInForce,
+    GrantKeepsWhatIsUnused,
+    RefusedGrantChangesARegister,
+    CancelReturnsItsRegister,
+    CancelStrikesOneOfTwo,
+    CancelLeavesTheGround,
+    MapIsNeverRefused,
+    LookUpRefusal,
+    LookUpWeight,
+    LookUpRows,
+    LookUpColumns,
+    LookUpPopulation,
+    LookUpOffset,
+    LookUpLength,
+    AreasLackTheLast,
+    AreasAreOutOfOrder,
+    AreasStartElsewhere,
+    CoveragePeople,
+    CoverageOfALackingArea,
+    BlocksWhole,
+    BlocksValue,
+    BlocksSize,
+    BlocksUnused,
+    ProposalKindIsExact,
+    ProposalTiedIsOne,
+    ProposalIgnoresTheDraw,
+    ProposalWhiteSpace,
+    ProposalTarget,
+    ProposalShare,
+    ProposalPastItsCount,
+    FootprintIsTheWholeArea,
+    FootprintArea,
+    MaskAfterTheArea,
+    MaskGuardBefore,
+    MaskGuardAfter,
+    MaskKeptAtEight,
+    MaskWrittenWhereRefused,
+    NeededIsOneMore,
+    TableWrittenPastUse,
+    TableGuard,
+}
+
+/// The reference as an engine, with a mistake.
+struct Wrong(Mistake);
+
+impl Wrong {
+    fn is(&self, mistake: Mistake) -> bool {
+        self.0 == mistake
+    }
+
+    /// Puts a licence into the first free place of a register.
+    fn put(&self, register: &mut Register, licence: Licence) {
+        let wanted = |place: &&mut Licence| (place.call_sign == 0) != self.is(GrantTakesAPlaceInForce);
+        let granted = match self.0 {
+            GrantKeepsWhatIsUnused => licence,
+            _ => answers::raw_licence(&answers::licence(&licence)),
+        };
+        let places = if self.is(GrantTakesTwoPlaces) { 2 } else { 1 };
+        register.places.iter_mut().filter(wanted).take(places).for_each(|place| *place = granted);
+    }
+
+    fn spoil_outline(&self, outline: &mut Outline) {
+        match self.0 {
+            FootprintArea if outline.refusal == 0 => outline.area += 1,
+            NeededIsOneMore if outline.refusal == 8 => outline.needed += 1,
+            _ => {}
+        }
+    }
+
+    fn spoil_mask(&self, before: &Lent<u8>, mask: &mut Lent<u8>, outline: &Outline) {
+        let last = mask.whole().len() - 1;
+        match (self.0, outline.refusal) {
+            (FootprintIsTheWholeArea, 0) => {
+                mask.part_mut().iter_mut().filter(|byte| **byte == 0).for_each(|byte| *byte = 1)
+            }
+            (MaskAfterTheArea, 0) => mask.part_mut().iter_mut().rev().take(1).for_each(|byte| *byte ^= 2),
+            (MaskGuardBefore, 0) => mask.whole_mut()[15] ^= 1,
+            (MaskGuardAfter, 0) => mask.whole_mut()[last - 15] ^= 1,
+            (MaskKeptAtEight, 8) => *mask = before.clone(),
+            (MaskWrittenWhereRefused, 1..=7 | 9..) => mask.part_mut().fill(0),
+            _ => {}
+        }
+    }
+
+    fn spoil_table(&self, table: &mut Lent<u16>, used: usize) {
+        match self.0 {
+            TableWrittenPastUse => table.part_mut().iter_mut().skip(used).take(1).for_each(|entry| *entry ^= 1),
+            TableGuard => table.whole_mut()[0] ^= 1,
+            _ => table.part_mut()[..used].fill(0),
+        }
+    }
+}
+
+impl Engine for Wrong {
+    fn empty(&self) -> Register {
+        let mut register = NO_LICENCE;
+        register.places[5].call_sign = u32::from(self.is(EmptyHoldsALicence));
+        register
+    }
+
+    fn grant(&self, current: Register, licence: Licence) -> Step {
+        let lines = answers::lines(&current);
+        let refusal = match reference::grant(&lines, answers::licence(&licence)) {
+            _ if self.is(GrantRefusesAll) => 10,
+            Err(9) if self.is(GrantTakesTwice) && lines.len() < 64 => 0,
+            Err(refusal) => refusal,
+            Ok(_) => 0,
+        };
+        let mut next = current;
+        if refusal == 0 {
+            self.put(&mut next, licence);
+        } else if self.is(RefusedGrantChangesARegister) {
+            next.places[63].unused ^= 1;
+        }
+        Step { next, refusal }
+    }
+
+    fn cancel(&self, current: Register, call_sign: u32) -> Step {
+        let refusal = reference::cancel(&answers::lines(&current), call_sign).err().unwrap_or(0);
+        let mut next = current;
+        let most = if self.is(CancelStrikesOneOfTwo) { 1 } else { 64 };
+        for place in next.places.iter_mut().filter(|place| place.call_sign == call_sign).take(most) {
+            match self.0 {
+                _ if refusal != 0 => {}
+                CancelReturnsItsRegister => {}
+                CancelLeavesTheGround => place.call_sign = 0,
+                _ => *place = FREE,
+            }
+        }
+        Step { next, refusal }
+    }
+
+    fn check_map(&self, map: &[u8]) -> u32 {
+        if self.is(MapIsNeverRefused) { 0 } else { answers::check_map(map) }
+    }
+
+    fn look_up(&self, map: &[u8], number: u16) -> Area {
+        let mut area = answers::look_up(map, number);
+        match self.0 {
+            LookUpRefusal => area.refusal ^= 1,
+            LookUpWeight => area.weight += 1,
+            LookUpRows => area.rows += 1,
+            LookUpColumns => area.columns += 1,
+            LookUpPopulation => area.population += 1,
+            LookUpOffset => area.offset += 1,
+            LookUpLength => area.length += 1,
+            _ => {}
+        }
+        area
+    }
+
+    fn areas(&self, map: &[u8]) -> Vec<(u16, Area)> {
+        let mut areas = answers::areas(map, |number| self.look_up(map, number));
+        match self.0 {
+            AreasLackTheLast => areas.truncate(areas.len().saturating_sub(1)),
+            AreasAreOutOfOrder => areas.reverse(),
+            AreasStartElsewhere => areas.iter_mut().for_each(|(_, area)| area.offset += 1),
+            _ => {}
+        }
+        areas
+    }
+
+    fn coverage(&self, map: &[u8], current: Register, number: u16) -> Covered {
+        let mut covered = answers::coverage(map, &answers::lines(&current), number);
+        match self.0 {
+            CoveragePeople => covered.people += 1,
+            CoverageOfALackingArea if answers::look_up(map, number).rows == 0 => covered.people = 1,
+            _ => {}
+        }
+        covered
+    }
+
+    fn blocks(&self, map: &[u8], current: Register, number: u16) -> Held {
+        let mut held = answers::blocks(map, &answers::lines(&current), number);
+        match self.0 {
+            BlocksWhole => held.whole += 1,
+            BlocksValue => held.value += 1,
+            BlocksSize => held.size += 1,
+            BlocksUnused => held.unused += 1,
+            _ => {}
+        }
+        held
+    }
+
+    fn propose(&self, map: &[u8], current: Register, draw: u32) -> Proposal {
+        let draw = if self.is(ProposalIgnoresTheDraw) { 0 } else { draw };
+        let mut proposal = answers::propose(map, &answers::lines(&current), draw);
+        match self.0 {
+            _ if proposal.refusal != 0 => {}
+            ProposalKindIsExact => proposal.kind = 1,
+            ProposalTiedIsOne => proposal.tied = proposal.tied.min(1),
+            ProposalWhiteSpace => proposal.white_space += 1,
+            ProposalTarget => proposal.target += 1,
+            ProposalShare => {
+                proposal.areas.iter_mut().filter(|given| given.gets == 3).for_each(|given| given.share += 1)
+            }
+            ProposalPastItsCount => proposal.areas[31].number = 416,
+            _ => {}
+        }
+        proposal
+    }
+
+    fn footprint(&self, map: &[u8], current: Register, draw: u32, lent: &mut Buffers) -> Outline {
+        let before = lent.mask.clone();
+        let (lines, entries) = (answers::lines(&current), lent.table.part().len());
+        let (mut outline, used) = answers::footprint(map, &lines, draw, lent.mask.part_mut(), entries);
+        self.spoil_outline(&mut outline);
+        self.spoil_mask(&before, &mut lent.mask, &outline);
+        self.spoil_table(&mut lent.table, used);
+        outline
+    }
+}
+
+/// Some cases of each kind, the slow ones aside.
+fn cases(of_each: u64) -> Vec<Case> {
+    let slow = ["maps at the limits", "20 and 21 partial areas", "long last rings"];
+    let quick = KINDS.iter().filter(|kind| !slow.contains(&kind.name));
+    quick.flat_map(|kind| (0..of_each).map(|number| (kind.make)(&mut Random::new(number)))).collect()
+}
+
+fn first_difference(cases: &[Case], mistake: Mistake) -> Option<(&Case, Difference)> {
+    cases.iter().find_map(|case| Some((case, compare::run(&Wrong(mistake), case).difference?)))
+}
+
+#[test]
+fn the_reference_does_not_differ_from_itself() {
+    assert_eq!(first_difference(&cases(10), Nothing), None);
+}
+
+#[test]
+fn each_mistake_is_seen() {
+    let cases = cases(10);
+    for &mistake in MISTAKES {
+        assert!(first_difference(&cases, mistake).is_some(), "{mistake:?}");
+    }
+}
+
+#[test]
+fn every_sort_of_answer_comes_up() {
+    let mut seen = Seen::default();
+    cases(100).iter().for_each(|case| seen.add(&compare::run(&Wrong(Nothing), case).seen));
+    // Too slow for here: it takes 21 partial areas.
+    assert_eq!(seen.lacking(), ["refusal 12"]);
+}
+
+#[test]
+fn every_kind_makes_cases() {
+    for kind in &KINDS {
+        let case = (kind.make)(&mut Random::new(1));
+        assert!(!case.calls.is_empty(), "{}", kind.name);
+    }
+}
+
+#[test]
+fn a_case_that_differs_gets_smaller() {
+    let cases = cases(10);
+    let (case, difference) = first_difference(&cases, ProposalTiedIsOne).expect("a tie");
+    assert_eq!((difference.what.as_str(), difference.got.as_str()), ("tied", "1"));
+    let small = shrink(&Wrong(ProposalTiedIsOne), case);
+    let areas = reference::read_map(&small.map).expect("a good map");
+    assert_eq!((small.calls.len(), areas.len()), (1, 2));
+    assert!(compare::run(&Wrong(ProposalTiedIsOne), &small).difference.is_some());
+}
+
+#[test]
+fn cases_that_differ_are_written_down() {
+    let folder = std::env::temp_dir().join(format!("codwalet-differ-{}", std::process::id()));
+    let mut said = Vec::new();
+    let mut test = Test::new(&Wrong(CoveragePeople), &folder, &mut said);
+    test.round(7, Duration::from_secs(2)).expect("a folder to write to");
+    assert_eq!(test.differed(), MOST_DIFFERENCES);
+    for number in 1..=MOST_DIFFERENCES {
+        let text = std::fs::read_to_string(folder.join(format!("7-{number}.txt"))).expect("a case");
+        let [before, after] = text.split("differs at call 1: people").collect::<Vec<_>>()[..] else {
+            panic!("no difference in {text}");
+        };
+        assert!(before.contains("map, ") && before.contains("  1: coverage of area "), "{text}");
+        assert!(after.contains("expected ") && after.contains("got "), "{text}");
+    }
+    std::fs::remove_dir_all(&folder).expect("a folder that was written to");
+    let said = String::from_utf8(said).expect("text");
+    assert_eq!(said.matches("differs: ").count(), MOST_DIFFERENCES, "{said}");
+}

@@ -1,0 +1,138 @@
+//! Document 01's twelve holdings, and what the tests of the sections are built from.
+
+use super::*;
+
+/// An area of one row of cells, one hundredth of an arc second apart, on a latitude of its own.
+pub(super) fn row(number: u16, weight: u32, people: &[u32]) -> Area {
+    let cell = |(column, &people)| Some(Cell { people, latitude: i32::from(number), longitude: column as i32 });
+    let cells = people.iter().enumerate().map(cell).collect();
+    Area { number, weight, rows: 1, columns: people.len(), cells, start: 0, end: 0 }
+}
+
+/// A ground over the columns from `west` to before `east` of the row with a number.
+pub(super) fn columns(number: u16, west: i32, east: i32) -> Ground {
+    Ground::Box { south: i32::from(number), north: i32::from(number) + 1, west, east }
+}
+
+/// A licence for each ground, with call signs from 1 on.
+pub(super) fn licences(grounds: &[Ground]) -> Vec<Licence> {
+    let licence = |(place, &ground)| Licence { call_sign: place as u32 + 1, ground };
+    grounds.iter().enumerate().map(licence).collect()
+}
+
+/// An area with weight, population and c as a holding says, with the grounds that cover c people of it.
+pub(super) fn area_held(number: u16, (weight, population, c): (u32, u32, u32)) -> (Area, Vec<Ground>) {
+    let mut grounds = vec![Ground::Area(number); (c / population) as usize];
+    grounds.push(columns(number, 0, 1));
+    (row(number, weight, &[c % population, population - c % population]), grounds)
+}
+
+/// A map of one area, number 7, with the cells of holdings 10 to 12: 9 bytes of head, the bit map, and five cells.
+pub(super) fn small_map() -> Vec<u8> {
+    let mut map = vec![1, 7, 0, 1, 0, 0, 0, 1, 5, 0b11111];
+    for (column, people) in [5u32, 0, 4, 3, 8].into_iter().enumerate() {
+        map.extend(people.to_le_bytes());
+        map.extend(7i32.to_le_bytes());
+        map.extend((column as i32).to_le_bytes());
+    }
+    map
+}
+
+/// What a holding consists of.
+enum Held {
+    /// Each area's weight, pop and c.
+    Areas(&'static [(u32, u32, u32)]),
+    /// So many licences over columns 2 and 3 of one row with people 5, 0, 4, 3, 8.
+    Row(usize),
+}
+
+/// One of document 01's holdings with its answers by hand count.
+struct Holding {
+    name: &'static str,
+    held: Held,
+    draw: u32,
+    kind: u32,
+    target: u64,
+    white_space: u64,
+    tied: u64,
+    blocks: u64,
+    gets: &'static [Gets],
+    /// Where a footprint is asked for: the mask, and the table's entries.
+    footprint: Option<([u8; 5], usize)>,
+}
+
+const fn exact(name: &'static str, held: Held, gets: &'static [Gets]) -> Holding {
+    let footprint = None;
+    Holding { name, held, draw: 0, kind: 1, target: 0, white_space: 0, tied: 0, blocks: 0, gets, footprint }
+}
+
+const fn part(name: &'static str, held: Held, target: u64, white_space: u64, gets: &'static [Gets]) -> Holding {
+    Holding { kind: 3, target, white_space, tied: 1, ..exact(name, held, gets) }
+}
+
+// A row of the table is a holding: it stays on two lines.
+#[rustfmt::skip]
+const HOLDINGS: [Holding; 13] = {
+    use Gets::{Nothing, RoundedUp, Share, Whole};
+    use Held::{Areas, Row};
+    [
+        Holding { blocks: 1, ..exact("1", Areas(&[(1, 100, 198)]), &[Nothing]) },
+        Holding { kind: 2, ..part("2", Areas(&[(1, 100, 197)]), 9_850, 150, &[RoundedUp]) },
+        Holding { kind: 2, ..part("3", Areas(&[(1, 100, 180)]), 9_000, 1_000, &[RoundedUp]) },
+        part("4", Areas(&[(1, 100, 179)]), 8_950, 1_050, &[Share(8_950)]),
+        Holding { target: 10_000, ..exact("5", Areas(&[(1, 100, 100), (1, 100, 100)]), &[Whole, Nothing]) },
+        part("6", Areas(&[(1, 100, 100), (1, 40, 40)]), 7_000, 3_000, &[Share(7_000), Nothing]),
+        Holding { kind: 2, ..part("7", Areas(&[(1, 1_000, 1_000), (1, 330, 300), (1, 330, 300), (1, 330, 300)]),
+            95_000, 5_000, &[RoundedUp, Nothing, Nothing, Nothing]) },
+        part("8", Areas(&[(1, 100, 180), (3, 120, 200)]), 39_000, 7_000, &[Whole, Share(29_000)]),
+        Holding { tied: 2, ..part("9, draw 0", Areas(&[(1, 100, 150), (1, 100, 150)]),
+            15_000, 5_000, &[Share(5_000), Whole]) },
+        Holding { tied: 2, draw: 3, ..part("9, draw 3", Areas(&[(1, 100, 150), (1, 100, 150)]),
+            15_000, 5_000, &[Whole, Share(5_000)]) },
+        Holding { footprint: Some(([0, 0, 1, 0, 0], 4)), ..part("10", Row(1), 350, 1_650, &[Share(350)]) },
+        Holding { footprint: Some(([0, 0, 1, 1, 0], 0)), ..part("11", Row(2), 700, 1_300, &[Share(700)]) },
+        Holding { footprint: Some(([0, 1, 1, 1, 1], 5)), ..part("12", Row(3), 1_050, 950, &[Share(1_050)]) },
+    ]
+};
+
+/// The areas of a holding and its licences.
+fn hold(held: &Held) -> (Vec<Area>, Vec<Licence>) {
+    match held {
+        Held::Areas(areas) => {
+            let each = areas.iter().enumerate().map(|(place, &area)| area_held(place as u16 + 1, area));
+            let (areas, grounds): (Vec<Area>, Vec<Vec<Ground>>) = each.unzip();
+            (areas, licences(&grounds.concat()))
+        }
+        Held::Row(count) => (vec![row(1, 1, &[5, 0, 4, 3, 8])], licences(&vec![columns(1, 2, 4); *count])),
+    }
+}
+
+#[test]
+fn the_twelve_holdings() {
+    for holding in &HOLDINGS {
+        let (areas, lines) = hold(&holding.held);
+        let given = |(place, &gets)| Given { number: place as u16 + 1, blocks: holding.blocks, gets };
+        let by_hand = Proposal {
+            kind: holding.kind,
+            target: holding.target,
+            white_space: holding.white_space,
+            tied: holding.tied,
+            areas: holding.gets.iter().enumerate().map(given).collect(),
+        };
+        assert_eq!(propose(&areas, &lines, holding.draw), Ok(by_hand), "holding {}", holding.name);
+        if let Some((mask, entries)) = holding.footprint {
+            let outline = outline(&areas, &lines, holding.draw).expect("of kind 3");
+            assert_eq!(outline.footprint, mask.map(|byte| byte == 1), "holding {}", holding.name);
+            assert_eq!(outline.entries, entries, "holding {}", holding.name);
+        }
+    }
+}
+
+#[test]
+fn more_than_20_partial_areas() {
+    let areas: Vec<Area> = (1..=21).map(|number| row(number, 1, &[1])).collect();
+    let lines = licences(&(1..=21).map(Ground::Area).collect::<Vec<Ground>>());
+    assert_eq!(propose(&areas, &lines, 0), Err(12));
+    assert_eq!(outline(&areas, &lines, 0), Err(12));
+    assert_eq!(propose(&areas, &lines[1..], 0).map(|proposal| proposal.kind), Ok(1));
+}

@@ -1,0 +1,166 @@
+//! Reads the lines of a plan: each becomes a call, or what is wrong with it.
+
+use super::coordinate::{self, Axis};
+use super::note::Loaded;
+use super::words::{self, Fault, Word, Words};
+use super::{Call, Over, Step, Wrong};
+use crate::files::{self, Identity};
+use crate::maps;
+use codwalet::{GeoBox, Licence, Map};
+use std::collections::HashMap;
+use std::collections::hash_map::Entry;
+use std::path::{Path, PathBuf};
+use std::rc::Rc;
+
+/// What the lines of a plan are read by, and what those before have named.
+pub struct Reader<'p> {
+    plan: &'p Path,
+    strict: bool,
+    /// What is to be said of maps that is no mistake.
+    pub notes: Vec<String>,
+    map_named: bool,
+    /// The map that calls read; None if the line that names it is wrong.
+    map: Option<Loaded>,
+    /// The maps' files, with their lines.
+    map_files: Vec<(usize, PathBuf)>,
+    /// The pictures' files, with their lines and words.
+    pictures: Vec<(usize, String, PathBuf)>,
+}
+
+impl<'p> Reader<'p> {
+    /// Reads the lines of a plan's file.
+    pub fn new(plan: &'p Path, strict: bool) -> Reader<'p> {
+        let (notes, map_files, pictures) = (Vec::new(), Vec::new(), Vec::new());
+        Reader { plan, strict, notes, map_named: false, map: None, map_files, pictures }
+    }
+
+    /// The step of a line, if it has words.
+    pub fn step(&mut self, line: usize, content: &[u8]) -> Result<Option<Step>, Fault> {
+        let words = words::split(content)?;
+        if words.is_empty() {
+            return Ok(None);
+        }
+        let mut left = Words::new(&words);
+        let call = self.call(line, &mut left)?;
+        left.end()?;
+        if call.reads_map() && !self.map_named {
+            return Err((call.name().to_string(), Wrong::NoMap));
+        }
+        match call {
+            Call::Grant { note: Some(note), .. } if self.strict => {
+                Err((joined(&words[3..]), Wrong::CoversNothing(note)))
+            }
+            call => Ok(Some(Step { line, words: joined(&words), call })),
+        }
+    }
+
+    fn call(&mut self, line: usize, words: &mut Words) -> Result<Call, Fault> {
+        Ok(match words.next("a call")?.bytes() {
+            b"map" => self.map(line, words)?,
+            b"grant" => self.grant(words)?,
+            b"cancel" => Call::Cancel(words.number("CALLSIGN")?),
+            b"coverage" => Call::Coverage(words.number("NUMBER")?),
+            b"blocks" => Call::Blocks(words.number("NUMBER")?),
+            b"propose" => Call::Propose(words.number("DRAW")?),
+            b"footprint" => Call::Footprint(words.number("DRAW")?, self.picture(line, words)?),
+            _ => return Err(words.wrong(Wrong::UnknownCall)),
+        })
+    }
+
+    fn map(&mut self, line: usize, words: &mut Words) -> Result<Call, Fault> {
+        // Whatever is wrong with this line, the calls below it don't read the map before it.
+        (self.map_named, self.map) = (true, None);
+        let word = words.next("FILE")?;
+        let file = self.map_path(word);
+        if files::is_standard(&file) && self.reads_standard_input() {
+            return Err(words.wrong(Wrong::InputTwice));
+        }
+        self.map_files.push((line, file.clone()));
+        let found = maps::read(&file).map_err(|why| words.wrong(Wrong::Map(why)))?;
+        self.notes.extend(found.note);
+        let map = Rc::new(Map::owned(found.bytes));
+        self.map = Some(Loaded::new(Rc::clone(&map)));
+        Ok(Call::Map { file: word.text(), map })
+    }
+
+    /// Where a map's file is: `-` is standard input, and other files are found from the plan's folder.
+    fn map_path(&self, word: &Word) -> PathBuf {
+        if files::is_standard(word.path()) {
+            return word.path().to_path_buf();
+        }
+        self.plan.parent().unwrap_or(Path::new("")).join(word.path())
+    }
+
+    /// Whether the plan or a map before is read from standard input.
+    fn reads_standard_input(&self) -> bool {
+        files::is_standard(self.plan) || self.map_files.iter().any(|(_, file)| files::is_standard(file))
+    }
+
+    fn grant(&self, words: &mut Words) -> Result<Call, Fault> {
+        let call_sign = words.number("CALLSIGN")?;
+        let (licence, like_degrees) = match words.next("area or box")?.bytes() {
+            b"area" => (Licence::area(call_sign, words.number("NUMBER")?), None),
+            b"box" => {
+                let (edges, like_degrees) = read_box(words)?;
+                (Licence::within(call_sign, edges), like_degrees)
+            }
+            _ => return Err(words.wrong(Wrong::NotDue("area or box"))),
+        };
+        let note = self.map.as_ref().and_then(|map| map.note_on(&licence, like_degrees));
+        Ok(Call::Grant { licence, note })
+    }
+
+    fn picture(&mut self, line: usize, words: &mut Words) -> Result<Option<PathBuf>, Fault> {
+        if words.rest().is_empty() {
+            return Ok(None);
+        }
+        if words.next("svg")?.bytes() != b"svg" {
+            return Err(words.wrong(Wrong::NotDue("svg or nothing")));
+        }
+        let word = words.next("FILE")?;
+        let file = word.path().to_path_buf();
+        if files::is_standard(&file) {
+            return Err(words.wrong(Wrong::PictureAmongAnswers));
+        }
+        self.pictures.push((line, word.shown(), file.clone()));
+        Ok(Some(file))
+    }
+
+    /// The pictures that would be written over the plan, over a map of it, or over each other.
+    pub fn drawn_over(&self) -> Vec<(usize, Fault)> {
+        let mut taken = HashMap::from([(Identity::of(self.plan), Over::Plan)]);
+        for (line, file) in &self.map_files {
+            taken.entry(Identity::of(file)).or_insert(Over::Map { line: *line });
+        }
+        let mut faults = Vec::new();
+        for (line, word, file) in &self.pictures {
+            match taken.entry(Identity::of(file)) {
+                Entry::Occupied(over) => faults.push((*line, (word.clone(), Wrong::DrawnOver(*over.get())))),
+                Entry::Vacant(free) => {
+                    free.insert(Over::Picture { line: *line });
+                }
+            }
+        }
+        faults
+    }
+}
+
+/// Words with a blank between them, as a plan has them.
+fn joined(words: &[Word]) -> String {
+    words.iter().map(Word::written).collect::<Vec<_>>().join(" ")
+}
+
+/// A box; and one of its edges if all are whole numbers that may be meant for degrees.
+fn read_box(words: &mut Words) -> Result<(GeoBox, Option<i32>), Fault> {
+    let written = words.rest();
+    let edges = GeoBox {
+        south: words.coordinate("SOUTH", Axis::Latitude)?,
+        north: words.coordinate("NORTH", Axis::Latitude)?,
+        west: words.coordinate("WEST", Axis::Longitude)?,
+        east: words.coordinate("EAST", Axis::Longitude)?,
+    };
+    let values = [edges.south, edges.north, edges.west, edges.east];
+    let whole = written[..values.len()].iter().all(|word| word.as_str().is_some_and(coordinate::is_whole));
+    let like_degrees = whole && values.iter().all(|value| (-180..=180).contains(value));
+    Ok((edges, values.into_iter().find(|&value| like_degrees && value != 0)))
+}

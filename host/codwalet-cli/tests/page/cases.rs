@@ -1,0 +1,115 @@
+//! Pictures with many boxes and with few, on areas of all shapes.
+
+use super::Page;
+use codwalet::{GeoBox, Licence, Map, Register};
+use codwalet_cli::csv::{HEADER, build};
+use codwalet_cli::picture::{Drawing, svg};
+use std::ops::Range;
+
+/// The drawing for the cells of some lines and some licences.
+pub fn draw(lines: &str, licences: &[Licence]) -> Drawing {
+    let built = build(format!("{HEADER}\n{lines}").as_bytes()).expect("the map is built");
+    let map = Map::owned(built.bytes).expect("the map is accepted");
+    let grant = |register: Register, licence: &Licence| register.grant(*licence).expect("the licence is granted");
+    let register = licences.iter().fold(Register::empty(), grant);
+    Drawing::make(&map, &register, 0).expect("there is a footprint")
+}
+
+/// The cells of area 212, ten hundredths of an arc second apart, the people of each cell by its place.
+fn grid(rows: usize, columns: usize, weight: u32, people: fn(usize) -> usize) -> String {
+    let line = |place: usize| {
+        let (row, column) = (place / columns, place % columns);
+        format!("212,{weight},{row},{column},{},{},{}\n", people(place), -10 * row as i32, 10 * column as i32)
+    };
+    (0..rows * columns).map(line).collect()
+}
+
+/// A licence for a box over some rows and columns of such a grid, its call sign having ten digits.
+pub fn over(number: u32, rows: Range<i32>, columns: Range<i32>) -> Licence {
+    let edges = GeoBox {
+        north: 5 - 10 * rows.start,
+        south: 5 - 10 * rows.end,
+        west: 10 * columns.start - 5,
+        east: 10 * columns.end - 5,
+    };
+    Licence::within(4_000_000_000 + number, edges)
+}
+
+/// A picture of area 212.
+pub struct Case {
+    pub name: &'static str,
+    pub rows: usize,
+    pub columns: usize,
+    pub weight: u32,
+    pub people: fn(usize) -> usize,
+    pub licences: Vec<Licence>,
+}
+
+impl Case {
+    pub fn page(&self) -> Page {
+        let Case { rows, columns, weight, people, .. } = *self;
+        Page::read(&svg(&draw(&grid(rows, columns, weight, people), &self.licences)))
+    }
+
+    pub fn call_signs(&self) -> impl Iterator<Item = String> {
+        self.licences.iter().map(|licence| licence.call_sign().to_string())
+    }
+}
+
+/// The people of a cell, by its place.
+pub fn some_people(place: usize) -> usize {
+    place * 7919 % 131
+}
+
+/// 64 boxes, each made from its number, over a grid of some rows and columns.
+fn boxes(name: &'static str, rows: usize, columns: usize, each: fn(i32) -> (Range<i32>, Range<i32>)) -> Case {
+    let licence = |number: u32| {
+        let (rows, columns) = each(number as i32);
+        over(number, rows, columns)
+    };
+    Case { name, rows, columns, weight: 3, people: some_people, licences: (0..64).map(licence).collect() }
+}
+
+/// From a start on, so many.
+fn from(start: i32, count: i32) -> Range<i32> {
+    start..start + count
+}
+
+/// Pictures with 64 boxes.
+pub fn crowded() -> Vec<Case> {
+    vec![
+        boxes("spread", 128, 128, |n| (from(n * 37 % 110, 2 + n % 15), from(n * 53 % 110, 2 + n * 7 % 15))),
+        boxes("nested", 128, 128, |n| (n..127 - n.min(62), n..128 - n)),
+        boxes("overlapping", 40, 40, |n| (from(n * 7 % 20, 5 + n % 13), from(n * 11 % 20, 5 + n * 3 % 15))),
+        boxes("side by side", 16, 16, |n| (from(n / 8 * 2, 2), from(n % 8 * 2, 2))),
+        boxes("close together", 128, 128, |n| (from(20 + n / 8, 1), from(40 + n % 8, 1))),
+        boxes("narrowing", 20, 64, |n| (0..20, 0..64 - n)),
+        boxes("wide and low", 4, 128, |n| (from(n % 3, 1 + n % 2), from(n * 29 % 110, 3 + n % 14))),
+        boxes("tall and narrow", 128, 4, |n| (from(n * 29 % 110, 3 + n % 14), from(n % 3, 1 + n % 2))),
+        boxes("in few cells", 4, 4, |n| (0..1 + n % 4, n / 16..1 + n / 4 % 4 + n / 16)),
+    ]
+}
+
+/// Pictures with few boxes, one with licences for the whole area too, and one with the largest amounts.
+pub fn plain() -> Vec<Case> {
+    let few = vec![over(1, 2..6, 2..6), over(2, 5..9, 5..9), over(3, 0..4, 8..12)];
+    let whole_area = (1..=20).map(|call_sign| Licence::area(call_sign, 212));
+    let with_area = few.iter().copied().chain(whole_area).collect();
+    let corners = [(1, 0, 127), (2, 127, 0), (3, 127, 127)];
+    let corners = corners.map(|(number, row, column)| over(number, from(row, 1), from(column, 1)));
+    let case = |name, rows, columns, licences| Case { name, rows, columns, weight: 3, people: some_people, licences };
+    vec![
+        case("few", 12, 12, few),
+        case("with the whole area", 12, 12, with_area),
+        case("in the corners", 128, 128, corners.to_vec()),
+        case("two cells", 1, 2, vec![over(1, 0..1, 1..2)]),
+        case("wide and low, few", 4, 128, vec![over(1, 0..4, 10..40), over(2, 1..3, 60..90)]),
+        case("the same box", 8, 8, (0..36).map(|number| over(number, 2..5, 2..6)).collect()),
+        Case { weight: 65_535, people: |_| 1_000_000, ..case("large amounts", 5, 8, vec![over(1, 0..3, 0..8)]) },
+    ]
+}
+
+/// All these pictures.
+pub fn all() -> impl Iterator<Item = Case> {
+    crowded().into_iter().chain(plain())
+}

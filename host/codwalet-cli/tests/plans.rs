@@ -1,0 +1,219 @@
+//! Plans that run: how words are written, what is noted, and where pictures may go.
+
+mod common;
+
+use common::{CSV, Ended, codwalet, codwalet_reading, command, ended, files_in, folder_with};
+use std::ffi::OsStr;
+use std::fs::{self, File};
+use std::os::unix::ffi::OsStrExt;
+use std::path::PathBuf;
+
+/// A folder with a plan and a map.
+fn folder(name: &str, plan: &str) -> PathBuf {
+    folder_with(&format!("plans-{name}"), &[("good.csv", CSV.as_bytes()), ("it.plan", plan.as_bytes())])
+}
+
+fn run(name: &str, plan: &str) -> Ended {
+    codwalet(&folder(name, plan), &["run", "it.plan"])
+}
+
+/// A line of a plan's answers, from its call on.
+fn answer(ended: &Ended, line: usize) -> &str {
+    let start = format!("{line:>4}  ");
+    ended.out.lines().find_map(|text| text.strip_prefix(&start)).unwrap_or_else(|| panic!("{}", ended.out))
+}
+
+#[test]
+fn words_may_be_quoted() {
+    let plan = "map \"a #1 \\\"map\\\".csv\" # a comment\ngrant 1 \"area\" 7 #\nmap b#.csv\n";
+    let folder = folder("quoted", plan);
+    for name in ["a #1 \"map\".csv", "b#.csv"] {
+        fs::write(folder.join(name), CSV).expect("the map is written");
+    }
+    let ended = codwalet(&folder, &["run", "it.plan"]);
+    assert_eq!(ended.said(), (Some(0), ""));
+    assert_eq!(answer(&ended, 1), "map \"a #1 \\\"map\\\".csv\"  1 area, 34 bytes");
+    assert_eq!(answer(&ended, 2), "grant 1 area 7          granted; 1 licence in force");
+    let json = codwalet(&folder, &["run", "it.plan", "--json"]).out;
+    assert!(json.contains(r#""file":"a #1 \"map\".csv","#) && json.contains(r#""file":"b#.csv","#), "{json}");
+}
+
+#[test]
+fn pictures_may_have_blanks_in_their_names() {
+    let folder = folder("blanks", "map good.csv\ngrant 1 area 7\nfootprint 0 svg \"my picture.svg\"\n");
+    assert_eq!(codwalet(&folder, &["run", "it.plan"]).said(), (Some(0), ""));
+    assert_eq!(files_in(&folder), ["good.csv", "it.plan", "my picture.svg"]);
+}
+
+#[test]
+fn names_of_files_need_not_be_text() {
+    let name = |bytes: &'static [u8]| OsStr::from_bytes(bytes);
+    let folder = folder("bytes", "");
+    fs::write(folder.join(name(b"m\xe9.csv")), CSV).expect("the map is written");
+    let plan = b"# caf\xe9\nmap m\xe9.csv\ngrant 1 area 7\nfootprint 0 svg d\xe9.svg\n";
+    fs::write(folder.join(name(b"p\xe9.plan")), plan).expect("the plan is written");
+    let ended = codwalet(&folder, &[OsStr::new("run"), name(b"p\xe9.plan")]);
+    assert_eq!(ended.said(), (Some(0), ""));
+    assert!(folder.join(name(b"d\xe9.svg")).exists());
+    let ended = codwalet(&folder, &[OsStr::new("map"), OsStr::new("build"), name(b"m\xe9.csv"), name(b"b\xe9.map")]);
+    assert_eq!((ended.said(), folder.join(name(b"b\xe9.map")).exists()), ((Some(0), ""), true));
+}
+
+/// Grants on a map with area 7 about 39.5N 100W, and the notes on them.
+const NOTED: [(&str, &str); 6] = [
+    ("area 8", "the map lacks area 8"),
+    (
+        "box 39 40 -101 -100",
+        "the box covers no cell of the map; whole numbers are hundredths of an arc second: 39 is 0.39 arc seconds",
+    ),
+    (
+        "box 0 1 -180 0",
+        "the box covers no cell of the map; whole numbers are hundredths of an arc second: 1 is 0.01 arc seconds",
+    ),
+    ("box 39 181 -101 -100", "the box covers no cell of the map"),
+    ("box 39 40.0 -101 -100", "the box covers no cell of the map"),
+    ("box 41N 42N 101W 99W", "the box covers no cell of the map"),
+];
+
+#[test]
+fn licences_that_cover_nothing_are_noted() {
+    for (ground, note) in NOTED {
+        let folder = folder("noted", &format!("map good.csv\ngrant 1 {ground}\n"));
+        let ended = codwalet(&folder, &["run", "it.plan"]);
+        assert_eq!(ended.said(), (Some(0), ""));
+        assert_eq!(answer(&ended, 2), format!("grant 1 {ground}  granted; 1 licence in force; note: {note}"));
+        let json = codwalet(&folder, &["run", "it.plan", "--json"]).out;
+        assert!(json.ends_with(&format!(",\"in_force\":1,\"note\":\"{note}\"}}\n")), "{json}");
+
+        let ended = codwalet(&folder, &["run", "--strict", "it.plan"]);
+        let word = ground.split_once(' ').map_or("", |(_, word)| word);
+        assert_eq!(ended.out, "", "{ground}");
+        assert_eq!(ended.said(), (Some(2), format!("it.plan:2: '{word}': {note}\n").as_str()));
+    }
+}
+
+/// Plans without a note: the licence covers a cell, is refused, or no map before it is accepted.
+const NOT_NOTED: [&str; 6] = [
+    "map good.csv\ngrant 1 area 7\ngrant 2 box 39.5 39.6 -100.0 -99.99\n",
+    "map good.csv\ngrant 0 area 8\n",
+    "grant 1 area 8\nmap good.csv\n",
+    "map bad.map\ngrant 1 area 8\n",
+    "map good.csv\nmap bad.map\ngrant 1 area 8\n",
+    "map good.csv\nmap other.csv\ngrant 1 area 8\n",
+];
+
+#[test]
+fn licences_without_a_note() {
+    for plan in NOT_NOTED {
+        let folder = folder("not-noted", plan);
+        fs::write(folder.join("bad.map"), [1, 7]).expect("the map is written");
+        fs::write(folder.join("other.csv"), CSV.replace("\n7,", "\n8,")).expect("the map is written");
+        let ended = codwalet(&folder, &["run", "it.plan", "--strict"]);
+        assert_eq!((ended.said(), ended.out.contains("note")), ((Some(0), ""), false), "{plan}");
+    }
+}
+
+#[test]
+fn licences_below_a_map_that_cannot_be_read_are_not_held_against_the_one_before() {
+    let folder = folder("unread", "map good.csv\nmap none.map\ngrant 1 area 8\n");
+    let said = "it.plan:2: map 'none.map' cannot be read: No such file or directory (os error 2)\n";
+    assert_eq!(codwalet(&folder, &["run", "it.plan", "--strict"]).said(), (Some(2), said));
+}
+
+/// What pictures must not be drawn over, by many paths, and what is said of it.
+const DRAWN_OVER: [(&str, &str); 9] = [
+    ("it.plan", "the plan itself"),
+    ("./it.plan", "the plan itself"),
+    ("sub/../it.plan", "the plan itself"),
+    ("link.plan", "the plan itself"),
+    ("hard.plan", "the plan itself"),
+    ("good.csv", "the map of line 1"),
+    ("link.csv", "the map of line 1"),
+    ("sub/later.csv", "the map of line 5"),
+    ("./first.svg", "the picture of line 3"),
+];
+
+/// A folder with links to a plan and its maps.
+fn linked(plan: &str) -> PathBuf {
+    let folder = folder("over", plan);
+    fs::create_dir(folder.join("sub")).expect("a folder is made");
+    fs::write(folder.join("sub/later.csv"), CSV).expect("the map is written");
+    std::os::unix::fs::symlink("it.plan", folder.join("link.plan")).expect("a link is made");
+    std::os::unix::fs::symlink("../plans-over/good.csv", folder.join("link.csv")).expect("a link is made");
+    fs::hard_link(folder.join("it.plan"), folder.join("hard.plan")).expect("a link is made");
+    folder
+}
+
+#[test]
+fn nothing_that_is_read_is_drawn_over() {
+    for (file, over) in DRAWN_OVER {
+        let first = "map good.csv\ngrant 1 area 7\nfootprint 0 svg first.svg\n";
+        let plan = format!("{first}footprint 0 svg {file}\nmap sub/later.csv\n");
+        let folder = linked(&plan);
+        let ended = codwalet(&folder, &["run", "it.plan"]);
+        assert_eq!(
+            (ended.out.as_str(), ended.said()),
+            ("", (Some(2), format!("it.plan:4: FILE '{file}' is {over}\n").as_str()))
+        );
+        assert_eq!(fs::read_to_string(folder.join("it.plan")).expect("the plan is read"), plan);
+        assert_eq!(fs::read_to_string(folder.join("good.csv")).expect("the map is read"), CSV);
+        assert!(!folder.join("first.svg").exists());
+    }
+}
+
+#[test]
+fn a_plan_on_standard_input_is_not_drawn_over() {
+    let folder = folder("over-input", "map good.csv\ngrant 1 area 7\nfootprint 0 svg it.plan\n");
+    let plan = File::open(folder.join("it.plan")).expect("the plan is opened");
+    let ended = ended(command(&folder, &["run", "-"]).stdin(plan).output().expect("the command line runs"));
+    assert_eq!(ended.said(), (Some(2), "standard input:3: FILE 'it.plan' is the plan itself\n"));
+}
+
+#[test]
+fn maps_of_a_plan_on_standard_input_are_found_from_the_current_directory() {
+    let folder = folder("input", "");
+    let read = |words: &[&str], input: &str| ended(codwalet_reading(&folder, words, input.as_bytes()));
+    let run = read(&["run", "-"], "map good.csv\n");
+    assert_eq!((run.said(), answer(&run, 1)), ((Some(0), ""), "map good.csv  1 area, 34 bytes"));
+    let run = read(&["run", "-"], "map good.csv\nmap -\n");
+    assert_eq!(run.said(), (Some(2), "standard input:2: map '-' is standard input, which is read already\n"));
+}
+
+#[test]
+fn a_map_of_a_plan_may_be_on_standard_input() {
+    let folder = folder("map-input", "map -\n");
+    let run = ended(codwalet_reading(&folder, &["run", "it.plan"], CSV.as_bytes()));
+    assert_eq!((run.said(), answer(&run, 1)), ((Some(0), ""), "map -  1 area, 34 bytes"));
+}
+
+#[test]
+fn a_picture_that_cannot_be_written_stops_nothing() {
+    let plan = "map good.csv\ngrant 1 area 7\nfootprint 0 svg none/it.svg\ncancel 1\n";
+    let folder = folder("picture", plan);
+    let ended = codwalet(&folder, &["run", "it.plan"]);
+    let why = "'none/it.svg' cannot be written: No such file or directory (os error 2)";
+    assert_eq!(ended.said(), (Some(1), format!("it.plan:3: {why}\n").as_str()));
+    let footprint = answer(&ended, 3);
+    assert!(footprint.ends_with(&format!(" for a share of 5,000; note: {why}")), "{footprint}");
+    assert_eq!(answer(&ended, 4), "cancel 1                     cancelled; 0 licences in force");
+    let json = codwalet(&folder, &["run", "it.plan", "--json"]);
+    assert_eq!((json.status, json.out.lines().count()), (Some(1), 4));
+    assert!(json.out.contains(&format!("],\"note\":\"{why}\"}}\n")), "{}", json.out);
+    assert_eq!(files_in(&folder), ["good.csv", "it.plan"]);
+}
+
+#[test]
+fn columns_that_are_not_used_are_noted() {
+    let folder = folder("unused", "map named.csv\n");
+    let text = CSV.replace("area,", "county,area,").replace("\n7,", "\nx,7,").replace("longitude\n", "longitude,\n");
+    fs::write(folder.join("named.csv"), text.replace("W\n", "W,\n")).expect("the map is written");
+    let said = "named.csv: note: columns 'county', '' are not used\n";
+    for words in [&["run", "it.plan"][..], &["check", "named.csv"], &["map", "show", "named.csv"]] {
+        assert_eq!(codwalet(&folder, words).said(), (Some(0), said));
+    }
+}
+
+#[test]
+fn an_empty_plan_has_no_answers() {
+    assert_eq!(run("empty", "\u{feff}# nothing\r\n\r\n").out, "line  call  answer\n");
+}

@@ -1,0 +1,160 @@
+//! Licences, and what is wrong with one that the engine refuses by 6.
+
+use crate::{Cell, limits, raw};
+use std::fmt;
+
+/// A box between two latitudes and two longitudes, in hundredths of an arc second; degrees south and west are negative.
+/// It covers the cells with south <= latitude < north and west <= longitude < east.
+#[derive(Clone, Copy, Debug, PartialEq, Eq, PartialOrd, Ord, Hash)]
+pub struct GeoBox {
+    pub south: i32,
+    pub north: i32,
+    pub west: i32,
+    pub east: i32,
+}
+
+impl GeoBox {
+    /// Whether the box covers a cell.
+    pub fn covers(&self, cell: &Cell) -> bool {
+        (self.south..self.north).contains(&cell.latitude) && (self.west..self.east).contains(&cell.longitude)
+    }
+
+    /// What is wrong with the box, if something is.
+    fn flaw(&self) -> Option<Flaw> {
+        let GeoBox { south, north, west, east } = *self;
+        let past = |edge: &i32, limit: i32| !(-limit..=limit).contains(edge);
+        if let Some(edge) = [south, north].into_iter().find(|edge| past(edge, limits::LATITUDE)) {
+            return Some(Flaw::Latitude(edge));
+        }
+        if let Some(edge) = [west, east].into_iter().find(|edge| past(edge, limits::LONGITUDE)) {
+            return Some(Flaw::Longitude(edge));
+        }
+        if south >= north {
+            return Some(Flaw::SouthNotBelowNorth { south, north });
+        }
+        (west >= east).then_some(Flaw::WestNotBelowEast { west, east })
+    }
+}
+
+/// What a licence is for.
+#[derive(Clone, Copy, Debug, PartialEq, Eq, PartialOrd, Ord, Hash)]
+#[non_exhaustive]
+pub enum Ground {
+    /// Every cell of the area with this number.
+    Area(u16),
+    /// The cells that a box covers, whatever their area.
+    Box(GeoBox),
+    /// Nothing. No grant is accepted with it; a register that is read from bytes may hold it.
+    None,
+}
+
+/// A licence of 50 MHz.
+#[derive(Clone, Copy, Debug, PartialEq, Eq, PartialOrd, Ord, Hash)]
+pub struct Licence {
+    call_sign: u32,
+    ground: Ground,
+}
+
+impl Licence {
+    /// A licence for a whole area.
+    pub fn area(call_sign: u32, number: u16) -> Licence {
+        Licence { call_sign, ground: Ground::Area(number) }
+    }
+
+    /// A licence for what lies within a box.
+    pub fn within(call_sign: u32, edges: GeoBox) -> Licence {
+        Licence { call_sign, ground: Ground::Box(edges) }
+    }
+
+    pub fn call_sign(&self) -> u32 {
+        self.call_sign
+    }
+
+    pub fn ground(&self) -> Ground {
+        self.ground
+    }
+
+    /// Whether the licence covers a cell of the area with a number.
+    pub fn covers(&self, area: u16, cell: &Cell) -> bool {
+        match self.ground {
+            Ground::Area(number) => number == area,
+            Ground::Box(edges) => edges.covers(cell),
+            Ground::None => false,
+        }
+    }
+
+    /// What is wrong with the licence, if something is. The engine answers 6 and no more, so this is the library's own
+    /// reading of document 01's rules for a licence.
+    pub fn flaw(&self) -> Option<Flaw> {
+        if self.call_sign == 0 {
+            return Some(Flaw::CallSignZero);
+        }
+        match self.ground {
+            Ground::Area(number) if (1..=limits::AREA_NUMBER).contains(&number) => None,
+            Ground::Area(number) => Some(Flaw::AreaNumber(number)),
+            Ground::Box(edges) => edges.flaw(),
+            Ground::None => Some(Flaw::NoGround),
+        }
+    }
+
+    pub(crate) fn to_raw(self) -> raw::Licence {
+        let licence = raw::Licence { call_sign: self.call_sign, ..Default::default() };
+        match self.ground {
+            Ground::Area(area) => raw::Licence { kind: raw::GROUND_AREA, area, ..licence },
+            Ground::Box(GeoBox { south, north, west, east }) => {
+                raw::Licence { kind: raw::GROUND_BOX, south, north, west, east, ..licence }
+            }
+            Ground::None => raw::Licence { kind: u8::MAX, ..licence },
+        }
+    }
+
+    pub(crate) fn from_raw(licence: &raw::Licence) -> Licence {
+        let raw::Licence { call_sign, area, kind, south, north, west, east, .. } = *licence;
+        let ground = match kind {
+            raw::GROUND_AREA => Ground::Area(area),
+            raw::GROUND_BOX => Ground::Box(GeoBox { south, north, west, east }),
+            _ => Ground::None,
+        };
+        Licence { call_sign, ground }
+    }
+}
+
+/// What is wrong with a licence.
+#[derive(Clone, Copy, Debug, PartialEq, Eq, Hash)]
+#[non_exhaustive]
+pub enum Flaw {
+    CallSignZero,
+    /// The number of an area that no map can have.
+    AreaNumber(u16),
+    /// An edge beyond the poles.
+    Latitude(i32),
+    /// An edge beyond half the way around.
+    Longitude(i32),
+    SouthNotBelowNorth {
+        south: i32,
+        north: i32,
+    },
+    WestNotBelowEast {
+        west: i32,
+        east: i32,
+    },
+    NoGround,
+}
+
+impl fmt::Display for Flaw {
+    fn fmt(&self, out: &mut fmt::Formatter) -> fmt::Result {
+        match *self {
+            Flaw::CallSignZero => write!(out, "the call sign is 0"),
+            Flaw::AreaNumber(number) => write!(out, "area {number} is not within 1 to {}", limits::AREA_NUMBER),
+            Flaw::Latitude(edge) => {
+                write!(out, "latitude {edge} is not within -{limit} to {limit}", limit = limits::LATITUDE)
+            }
+            Flaw::Longitude(edge) => {
+                write!(out, "longitude {edge} is not within -{limit} to {limit}", limit = limits::LONGITUDE)
+            }
+            Flaw::SouthNotBelowNorth { south, north } => write!(out, "south {south} is not below north {north}"),
+            Flaw::WestNotBelowEast { west, east } => write!(out, "west {west} is not below east {east}"),
+            Flaw::NoGround => write!(out, "the ground is neither an area nor a box"),
+        }
+    }
+}

@@ -1,0 +1,100 @@
+//! The build's reading of the C header.
+
+#[path = "../build/header.rs"]
+mod header;
+#[path = "../build/rust.rs"]
+mod rust;
+#[path = "../build/tokens.rs"]
+mod tokens;
+
+use codwalet::raw;
+use header::{Item, Unread};
+
+const HEADER: &str = include_str!("../../include/codwalet.h");
+
+#[test]
+fn each_form_is_declared_in_rust() {
+    let text = r#"
+/* Above. */
+#define CODWALET_LIMIT 3
+enum {
+    CODWALET_GROUND_BOX = 1 /* behind */
+};
+#define CODWALET_REFUSALS(X) \
+    X(4, FULL, "it is full")
+/* A pair. */
+typedef struct {
+    uint16_t area; /* its number */
+    codwalet_pair others[CODWALET_LIMIT];
+} codwalet_pair;
+/* The last. */
+codwalet_pair codwalet_last(const uint8_t *map, size_t map_length,
+                            uint16_t *table);
+uint32_t codwalet_version(void);
+"#;
+    let due = r#"/// Above.
+pub const LIMIT: usize = 3;
+/// behind
+pub const GROUND_BOX: u8 = 1;
+/// it is full
+pub const FULL: u32 = 4;
+/// A pair.
+#[repr(C)]
+#[derive(Clone, Copy, Debug, PartialEq, Eq)]
+pub struct Pair {
+    /// its number
+    pub area: u16,
+    pub others: [Pair; LIMIT],
+}
+/// The refusals: the number and the words of each.
+pub const REFUSALS: [(u32, &str); 1] = [
+    (FULL, "it is full"),
+];
+unsafe extern "C" {
+    /// The last.
+    pub fn codwalet_last(map: *const u8, map_length: usize, table: *mut u16) -> Pair;
+    pub safe fn codwalet_version() -> u32;
+}
+"#;
+    assert_eq!(rust::write(&header::read(text).expect("the text is read")), due);
+}
+
+#[test]
+fn another_form_ends_the_build_at_its_line() {
+    for (text, line) in
+        [("\ntypedef int codwalet_word;", 2), ("#define OTHER 5", 1), ("uint8_t f(int **at);", 1), ("?", 1)]
+    {
+        assert_eq!(header::read(text), Err(Unread { line }), "{text}");
+    }
+}
+
+/// The comment above each struct says its size.
+#[test]
+fn structs_are_as_large_as_the_header_says() {
+    let sizes = [
+        ("codwalet_licence", size_of::<raw::Licence>()),
+        ("codwalet_register", size_of::<raw::Register>()),
+        ("codwalet_step", size_of::<raw::Step>()),
+        ("codwalet_area", size_of::<raw::Area>()),
+        ("codwalet_covered", size_of::<raw::Covered>()),
+        ("codwalet_held", size_of::<raw::Held>()),
+        ("codwalet_given", size_of::<raw::Given>()),
+        ("codwalet_proposal", size_of::<raw::Proposal>()),
+        ("codwalet_outline", size_of::<raw::Outline>()),
+    ];
+    let items = header::read(HEADER).expect("the header is read");
+    let structs = items.iter().filter_map(|item| match item {
+        Item::Struct { doc, name, .. } => Some((name.as_str(), doc)),
+        _ => None,
+    });
+    for ((name, doc), (named, size)) in structs.zip(sizes) {
+        let said = format!(" {} bytes", codwalet::grouped(size as u64));
+        assert!(name == named && doc.contains(&said), "{name}: {doc}");
+    }
+}
+
+#[test]
+fn the_archive_is_of_the_header_s_version() {
+    assert_eq!(raw::codwalet_version(), raw::VERSION);
+    raw::check_version();
+}
