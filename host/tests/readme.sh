@@ -14,7 +14,6 @@ example() {
 {
     example c | grep '^#include'
     cat << 'END'
-#include <stdio.h>
 static uint8_t map[1 << 16];
 static uint16_t table[1 << 16];
 int main(void)
