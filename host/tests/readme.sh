@@ -42,10 +42,11 @@ rustc --edition 2024 -D warnings "$folder/example.rs" -o "$folder/rust" -L nativ
     -L dependency=target/cargo/release/deps --extern codwalet=target/cargo/release/libcodwalet.rlib
 target/cargo/release/codwalet map build examples/two-areas.csv "$folder/region.map" > "$folder/built"
 
-# The lines that are shown of what a plan prints are lines of it.
+# The lines that are shown of what a plan prints are lines of it, in its order.
 example text > "$folder/shown"
 [ "$(wc -l < "$folder/shown")" -gt 5 ]
-grep -Fxv -f examples/expected/two-areas.txt "$folder/shown" && exit 1
+awk 'NR == FNR { shown[++count] = $0; next } $0 == shown[found + 1] { found++ } END { exit found < count }' \
+    "$folder/shown" examples/expected/two-areas.txt
 
 # Nothing of the plan is refused or a mistake.
 awk '/^## / { on = $0 == "## For planners" } on && sub(/^    /, "")' README.md > "$folder/readme.plan"

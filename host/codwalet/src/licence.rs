@@ -146,15 +146,20 @@ impl fmt::Display for Flaw {
         match *self {
             Flaw::CallSignZero => write!(out, "the call sign is 0"),
             Flaw::AreaNumber(number) => write!(out, "area {number} is not within 1 to {}", limits::AREA_NUMBER),
-            Flaw::Latitude(edge) => {
-                write!(out, "latitude {edge} is not within -{limit} to {limit}", limit = limits::LATITUDE)
+            Flaw::Latitude(edge) => write_past(out, "latitude", edge, limits::LATITUDE),
+            Flaw::Longitude(edge) => write_past(out, "longitude", edge, limits::LONGITUDE),
+            Flaw::SouthNotBelowNorth { south, north } => {
+                write!(out, "south {south} is not below north {north}, in {UNIT}")
             }
-            Flaw::Longitude(edge) => {
-                write!(out, "longitude {edge} is not within -{limit} to {limit}", limit = limits::LONGITUDE)
-            }
-            Flaw::SouthNotBelowNorth { south, north } => write!(out, "south {south} is not below north {north}"),
-            Flaw::WestNotBelowEast { west, east } => write!(out, "west {west} is not below east {east}"),
+            Flaw::WestNotBelowEast { west, east } => write!(out, "west {west} is not below east {east}, in {UNIT}"),
             Flaw::NoGround => write!(out, "the ground is neither an area nor a box"),
         }
     }
+}
+
+/// What coordinates are counted in.
+const UNIT: &str = "hundredths of an arc second";
+
+fn write_past(out: &mut fmt::Formatter, name: &str, edge: i32, limit: i32) -> fmt::Result {
+    write!(out, "{name} {edge} is not within -{limit} to {limit} {UNIT}")
 }

@@ -49,17 +49,25 @@ fn ill_formed_licences_are_refused_with_what_is_wrong() {
         (Licence::area(0, 7), Flaw::CallSignZero, "the call sign is 0"),
         (Licence::area(1, 0), Flaw::AreaNumber(0), "area 0 is not within 1 to 416"),
         (Licence::area(1, 417), Flaw::AreaNumber(417), "area 417 is not within 1 to 416"),
-        (boxed(5, 5, 0, 1), Flaw::SouthNotBelowNorth { south: 5, north: 5 }, "south 5 is not below north 5"),
-        (boxed(0, 1, -3, -4), Flaw::WestNotBelowEast { west: -3, east: -4 }, "west -3 is not below east -4"),
+        (
+            boxed(5, 5, 0, 1),
+            Flaw::SouthNotBelowNorth { south: 5, north: 5 },
+            "south 5 is not below north 5, in hundredths of an arc second",
+        ),
+        (
+            boxed(0, 1, -3, -4),
+            Flaw::WestNotBelowEast { west: -3, east: -4 },
+            "west -3 is not below east -4, in hundredths of an arc second",
+        ),
         (
             boxed(-32_400_001, 0, 0, 1),
             Flaw::Latitude(-32_400_001),
-            "latitude -32400001 is not within -32400000 to 32400000",
+            "latitude -32400001 is not within -32400000 to 32400000 hundredths of an arc second",
         ),
         (
             boxed(0, 1, 0, 64_800_001),
             Flaw::Longitude(64_800_001),
-            "longitude 64800001 is not within -64800000 to 64800000",
+            "longitude 64800001 is not within -64800000 to 64800000 hundredths of an arc second",
         ),
     ];
     for (licence, flaw, words) in ill_formed {
