@@ -1,5 +1,6 @@
 /*
- * Codwalet's C interface: the functions of crates/abi, in the archive target/staticlib/libabi.a (x86-64; it needs no other library).
+ * Codwalet's C interface: the functions of crates/abi, in the archive target/staticlib/libabi.a (x86-64; it needs
+ * memcpy and memset, and nothing else).
  *
  * Every function takes any input and returns: no map, register, licence, number, draw or buffer makes one fault or hang.
  * Nothing is allocated and nothing is kept, so calls may be made from several threads at once. Structs are passed and returned by
@@ -27,19 +28,20 @@ extern "C" {
  */
 #define CODWALET_VERSION 1
 
-/* Limits, each the largest value. */
-#define CODWALET_LIMIT 64             /* licences in force: places of a register */
-#define CODWALET_AREAS 32             /* areas of a map */
-#define CODWALET_PARTIAL_AREAS 20     /* partial areas of a proposal */
-#define CODWALET_AREA_NUMBER 416      /* the number of an area, from 1 */
-#define CODWALET_WEIGHT 65535         /* the weight of an area, from 1 */
-#define CODWALET_SIDE 128             /* rows, and columns, of an area, from 1 */
-#define CODWALET_PEOPLE 1000000       /* people of a cell, from 0 */
-#define CODWALET_POPULATION 40000000  /* people of an area, from 1 */
-#define CODWALET_LATITUDE 32400000    /* and its negative the smallest */
-#define CODWALET_LONGITUDE 64800000   /* and its negative the smallest */
+/* Limits: how many there are at most, and the largest that a field may be. */
+#define CODWALET_LIMIT 64                     /* Licences in force: places of a register. */
+#define CODWALET_AREAS 32                     /* Areas of a map. */
+#define CODWALET_PARTIAL_AREAS 20             /* Partial areas of a proposal. */
+#define CODWALET_LARGEST_NUMBER 416           /* The number of an area, from 1. */
+#define CODWALET_LARGEST_WEIGHT 65535         /* The weight of an area, from 1. */
+#define CODWALET_LARGEST_SIDE 128             /* Rows, and columns, of an area, from 1. */
+#define CODWALET_LARGEST_CELL 1000000         /* People of a cell, from 0. */
+#define CODWALET_LARGEST_POPULATION 40000000  /* People of an area, from 1. */
+#define CODWALET_LARGEST_LATITUDE 32400000    /* A latitude; the smallest is its negative. */
+#define CODWALET_LARGEST_LONGITUDE 64800000   /* A longitude; the smallest is its negative. */
 
-#define CODWALET_LARGEST_MASK (CODWALET_SIDE * CODWALET_SIDE) /* bytes of a mask that is long enough for every area */
+/* Bytes of a mask that is long enough for every area. */
+#define CODWALET_LARGEST_MASK (CODWALET_LARGEST_SIDE * CODWALET_LARGEST_SIDE)
 
 /* Refusals, by the numbers of document 01 (docs/RULES.md): number, name and words. 0 is no refusal. */
 #define CODWALET_REFUSALS(X) \
@@ -89,12 +91,12 @@ enum {
 /* A licence, 24 bytes. `unused` is not read. */
 typedef struct {
     uint32_t call_sign;           /* not 0 */
-    uint16_t area;                /* 1 to CODWALET_AREA_NUMBER */
+    uint16_t area;                /* 1 to CODWALET_LARGEST_NUMBER */
     uint8_t kind;                 /* CODWALET_GROUND_.. */
     uint8_t unused;
-    int32_t south;                /* south < north, both within +-CODWALET_LATITUDE */
+    int32_t south;                /* south < north, both within +-CODWALET_LARGEST_LATITUDE */
     int32_t north;
-    int32_t west;                 /* west < east, both within +-CODWALET_LONGITUDE */
+    int32_t west;                 /* west < east, both within +-CODWALET_LARGEST_LONGITUDE */
     int32_t east;
 } codwalet_licence;
 
@@ -155,6 +157,9 @@ typedef struct {
     codwalet_given areas[CODWALET_AREAS]; /* the first `count`, ascending */
 } codwalet_proposal;
 
+/* An entry of the table that a footprint works in. */
+typedef uint16_t codwalet_entry;
+
 /* What a footprint answers, 16 bytes. */
 typedef struct {
     uint32_t refusal;             /* 0 to 5, 12, 13, 7, 8 */
@@ -195,7 +200,7 @@ codwalet_proposal codwalet_propose(const uint8_t *map, size_t map_length, codwal
  * anything afterwards, the others stay. Refused, mask and table stay as they are, but at 8 the area's mask bytes become 0.
  */
 codwalet_outline codwalet_footprint(const uint8_t *map, size_t map_length, codwalet_register current, uint32_t draw,
-                                    uint8_t *mask, size_t mask_length, uint16_t *table, size_t table_length);
+                                    uint8_t *mask, size_t mask_length, codwalet_entry *table, size_t table_length);
 
 /* The words of a refusal; "accepted" for 0, and NULL where no refusal has the number. */
 static inline const char *codwalet_refusal_words(uint32_t refusal)

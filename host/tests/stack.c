@@ -11,7 +11,7 @@
 #include <string.h>
 #include <ucontext.h>
 
-#define SIDE CODWALET_SIDE
+#define SIDE CODWALET_LARGEST_SIDE
 #define PARTIAL CODWALET_PARTIAL_AREAS
 #define ENTRIES 1000000
 #define STACK ((size_t)1 << 20)
@@ -21,7 +21,7 @@ static uint8_t map[1 + CODWALET_AREAS * (8 + SIDE * (SIDE / 8 + SIDE * 12))];
 static size_t length;
 static codwalet_register current;
 static uint8_t mask[CODWALET_LARGEST_MASK];
-static uint16_t table[ENTRIES];
+static codwalet_entry table[ENTRIES];
 
 static void put(uint32_t value, int bytes)
 {

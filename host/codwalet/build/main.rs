@@ -9,11 +9,15 @@ use std::error::Error;
 use std::path::{Path, PathBuf};
 use std::{env, fs};
 
+/// The variable that names the archive's folder, where it is not in this checkout.
+const FOLDER: &str = "CODWALET_ARCHIVE_FOLDER";
+
 fn main() -> Result<(), Box<dyn Error>> {
     let here = PathBuf::from(env::var("CARGO_MANIFEST_DIR")?);
     let out = PathBuf::from(env::var("OUT_DIR")?);
     declare(&here.join("../include/codwalet.h"), &out.join("declarations.rs"))?;
-    link(&here.join("../../target/staticlib"));
+    println!("cargo::rerun-if-env-changed={FOLDER}");
+    link(&env::var_os(FOLDER).map_or(here.join("../../target/staticlib"), PathBuf::from));
     println!("cargo::rerun-if-changed=build");
     Ok(())
 }
@@ -31,7 +35,7 @@ fn link(folder: &Path) {
     let archive = folder.join("libabi.a");
     println!("cargo::rerun-if-changed={}", archive.display());
     if !archive.exists() {
-        println!("cargo::warning={} is missing; host/build makes it", archive.display());
+        println!("cargo::warning={} is missing; host/build makes it, or {FOLDER} names its folder", archive.display());
     }
     println!("cargo::rustc-link-search=native={}", folder.display());
     println!("cargo::rustc-link-lib=static=abi");

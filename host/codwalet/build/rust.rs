@@ -1,6 +1,6 @@
 //! Writes the header's declarations in Rust.
 
-use crate::header::{Field, Item, Pointer, own};
+use crate::header::{Field, Item, Pointer, TYPES, own};
 
 /// The Rust text of what a header declares.
 pub fn write(items: &[Item]) -> String {
@@ -9,6 +9,9 @@ pub fn write(items: &[Item]) -> String {
         match item {
             Item::Number { doc, name, value } => text += &number(doc, name, value_type(name, items), value),
             Item::Refusal { number: value, name, words } => text += &number(words, name, "u32", value),
+            Item::Alias { doc, name, of } => {
+                text += &format!("{}pub type {} = {};\n", docs("", doc), type_of(name), type_of(of));
+            }
             Item::Struct { doc, name, fields } => text += &structure(doc, name, fields),
             Item::Function { .. } => {}
         }
@@ -32,7 +35,6 @@ fn value_type(name: &str, items: &[Item]) -> &'static str {
 }
 
 fn number(doc: &str, name: &str, of: &str, value: &str) -> String {
-    let value = value.trim_start_matches('(').trim_end_matches(')').replace("CODWALET_", "");
     format!("{}pub const {name}: {of} = {value};\n", docs("", doc))
 }
 
@@ -88,12 +90,10 @@ fn declared(field: &Field) -> String {
 
 /// The Rust type for a type of the header: `u32` for `uint32_t`, `Licence` for `codwalet_licence`.
 fn type_of(c: &str) -> String {
-    if let Some(name) = c.strip_prefix("codwalet_") {
-        return name[..1].to_uppercase() + &name[1..];
-    }
-    match c {
-        "size_t" => "usize".to_string(),
-        _ => c.trim_end_matches("_t").replace("uint", "u").replace("int", "i"),
+    match (c.strip_prefix("codwalet_"), TYPES.iter().find(|(number, _)| *number == c)) {
+        (Some(name), _) => name[..1].to_uppercase() + &name[1..],
+        (None, Some((_, rust))) => rust.to_string(),
+        (None, None) => unreachable!("the header's types are read by their names"),
     }
 }
 

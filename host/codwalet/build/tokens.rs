@@ -15,16 +15,16 @@ pub enum Kind {
     Directive(String),
     /// A name or a number.
     Word(String),
+    /// What stands between two quotes. Nothing in it is escaped.
     Text(String),
     Symbol(char),
 }
 
-/// The tokens of a text, or the line of what is no token here.
-pub fn tokens(text: &str) -> Result<Vec<Token>, usize> {
+/// The tokens of a text whose first line has a number, or the line of what is no token here.
+pub fn tokens(text: &str, first_line: usize) -> Result<Vec<Token>, usize> {
     let mut tokens = Vec::new();
-    let mut rest = text;
+    let (mut rest, mut line) = (text, first_line);
     while let Some(first) = rest.chars().next() {
-        let line = 1 + text[..text.len() - rest.len()].matches('\n').count();
         let (is, length) = match first {
             _ if first.is_whitespace() => (None, first.len_utf8()),
             '/' => comment(rest).ok_or(line)?,
@@ -36,6 +36,7 @@ pub fn tokens(text: &str) -> Result<Vec<Token>, usize> {
         };
         let ends = line + rest[..length].trim_end().matches('\n').count();
         tokens.extend(is.map(|is| Token { line: ends, is }));
+        line += rest[..length].matches('\n').count();
         rest = &rest[length..];
     }
     Ok(tokens)
@@ -47,7 +48,7 @@ type Taken = (Option<Kind>, usize);
 fn comment(rest: &str) -> Option<Taken> {
     let body = rest.strip_prefix("/*")?;
     let end = body.find("*/")?;
-    let lines = body[..end].lines().map(|line| line.trim().trim_start_matches("* ").trim_start_matches('*'));
+    let lines = body[..end].lines().map(|line| line.trim().trim_start_matches('*'));
     let words: Vec<&str> = lines.flat_map(str::split_whitespace).collect();
     Some((Some(Kind::Comment(words.join(" "))), end + 4))
 }
@@ -64,8 +65,9 @@ fn directive(rest: &str) -> Taken {
 }
 
 fn quoted(rest: &str) -> Option<Taken> {
-    let end = rest[1..].find('"')?;
-    Some((Some(Kind::Text(rest[1..=end].to_string())), end + 2))
+    let text = rest[1..].split_once('"')?.0;
+    let is_plain = !text.contains(['\\', '\n']);
+    is_plain.then(|| (Some(Kind::Text(text.to_string())), text.len() + 2))
 }
 
 fn word(rest: &str) -> Taken {

@@ -13,13 +13,13 @@ pub struct Weighted(pub u64);
 impl fmt::Display for People {
     fn fmt(&self, out: &mut fmt::Formatter) -> fmt::Result {
         let word = if self.0 == 1 { "person" } else { "people" };
-        write!(out, "{} {word}", grouped(self.0))
+        out.pad(&format!("{} {word}", grouped(self.0)))
     }
 }
 
 impl fmt::Display for Weighted {
     fn fmt(&self, out: &mut fmt::Formatter) -> fmt::Result {
-        write!(out, "{} weighted MHz-pops", grouped(self.0))
+        out.pad(&format!("{} weighted MHz-pops", grouped(self.0)))
     }
 }
 
@@ -50,5 +50,6 @@ mod tests {
     fn amounts_name_their_unit() {
         assert_eq!([0, 1, 20_427].map(|count| People(count).to_string()), ["0 people", "1 person", "20,427 people"]);
         assert_eq!(Weighted(407_000).to_string(), "407,000 weighted MHz-pops");
+        assert_eq!(format!("{:>10}|", People(5)), "  5 people|");
     }
 }

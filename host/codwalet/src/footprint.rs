@@ -1,14 +1,18 @@
 //! The footprint of the area that is held in part, and the working store that it takes.
 
 use crate::limits;
+use crate::raw::Entry;
 use std::fmt;
 
 /// The part of the partial area that its share stands for.
 #[derive(Clone, PartialEq, Eq)]
 #[non_exhaustive]
 pub struct Footprint {
+    /// The partial area's number.
     pub area: u16,
+    /// Rows of its grid.
     pub rows: usize,
+    /// Columns of its grid.
     pub columns: usize,
     /// A byte for each place, row by row: 1 in the footprint, else 0.
     pub mask: Vec<u8>,
@@ -17,7 +21,8 @@ pub struct Footprint {
 impl Footprint {
     /// Whether a place of the area is in the footprint.
     pub fn contains(&self, row: usize, column: usize) -> bool {
-        row < self.rows && column < self.columns && self.mask[row * self.columns + column] == 1
+        let in_row = self.mask.chunks(self.columns.max(1)).nth(row).and_then(|marks| marks.get(column));
+        in_row == Some(&1)
     }
 
     /// How many cells are in the footprint.
@@ -42,7 +47,7 @@ impl fmt::Debug for Footprint {
 #[derive(Clone)]
 pub struct Workspace {
     pub(crate) mask: Vec<u8>,
-    pub(crate) table: Vec<u16>,
+    pub(crate) table: Vec<Entry>,
 }
 
 impl Workspace {
@@ -56,6 +61,10 @@ impl Workspace {
 
     /// A workspace whose table has so many entries. One more than the population of the largest area is enough for every
     /// footprint.
+    ///
+    /// # Panics
+    ///
+    /// If there is no memory for so many.
     pub fn with_entries(entries: usize) -> Workspace {
         Workspace { mask: vec![0; limits::MASK], table: vec![0; entries] }
     }
@@ -66,6 +75,10 @@ impl Workspace {
     }
 
     /// Lengthens the table to so many entries, if it has fewer.
+    ///
+    /// # Panics
+    ///
+    /// If there is no memory for so many.
     pub fn grow(&mut self, entries: usize) {
         if self.table.len() < entries {
             // What the table held says nothing, so it need not be copied.

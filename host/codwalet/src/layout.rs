@@ -1,7 +1,7 @@
 //! The bytes of a map, for reading and for writing: all that this library knows of where fields stand is here. The engine reads
 //! maps by itself; what is read here is shown beside its answers.
 
-use crate::{Cell, NewArea, People, Refusal, limits};
+use crate::{Cell, NewArea, People, Refusal, grouped, limits};
 use std::fmt;
 use std::ops::{Range, RangeInclusive};
 
@@ -18,7 +18,7 @@ fn has_bit(bits: &[u8], column: usize) -> bool {
     bits[column / 8] >> (column % 8) & 1 == 1
 }
 
-fn cell_from(bytes: &[u8]) -> Cell {
+fn cell_from(bytes: &[u8; CELL]) -> Cell {
     let field = |start: usize| [bytes[start], bytes[start + 1], bytes[start + 2], bytes[start + 3]];
     Cell {
         people: u32::from_le_bytes(field(0)),
@@ -27,17 +27,17 @@ fn cell_from(bytes: &[u8]) -> Cell {
     }
 }
 
-/// The places of an area, from the part of an accepted map that holds its rows.
+/// The places of an area, from the part of a map that holds its rows. Where the part ends early, so do the places.
 pub(crate) fn cells(part: &[u8], rows: usize, columns: usize) -> Vec<Option<Cell>> {
-    let mut places = Vec::with_capacity(rows * columns);
+    let mut places = Vec::new();
     let mut rest = part;
     for _ in 0..rows {
-        let bits;
-        (bits, rest) = rest.split_at(bit_map_length(columns));
+        let Some((bits, cells)) = rest.split_at_checked(bit_map_length(columns)) else { break };
+        rest = cells;
         for column in 0..columns {
-            let has_cell = has_bit(bits, column);
-            places.push(has_cell.then(|| cell_from(rest)));
-            rest = &rest[if has_cell { CELL } else { 0 }..];
+            let cell = if has_bit(bits, column) { rest.split_first_chunk() } else { None };
+            rest = cell.map_or(rest, |(_, behind)| behind);
+            places.push(cell.map(|(bytes, _)| cell_from(bytes)));
         }
     }
     places
@@ -59,8 +59,16 @@ pub(crate) struct Head {
 #[derive(Clone, Copy, Debug, PartialEq, Eq)]
 #[non_exhaustive]
 pub struct Fault {
+    /// Why the map is refused.
     pub refusal: Refusal,
+    /// The byte, from 0.
     pub byte: usize,
+}
+
+impl fmt::Display for Fault {
+    fn fmt(&self, out: &mut fmt::Formatter) -> fmt::Result {
+        write!(out, "refused, {}, at byte {}: {}", self.refusal.number(), grouped(self.byte as u64), self.refusal)
+    }
 }
 
 /// The heads of a map's areas from one pass over its fields, in byte order; or the first fault met.
@@ -174,9 +182,19 @@ pub enum Unwritable {
     /// So many areas.
     Areas(usize),
     /// So many rows or columns of the area with a number.
-    Side { area: u16, side: usize },
+    Side {
+        /// The area's number.
+        area: u16,
+        /// How many.
+        side: usize,
+    },
     /// The area with a number has other than rows x columns places.
-    Places { area: u16, places: usize },
+    Places {
+        /// The area's number.
+        area: u16,
+        /// How many.
+        places: usize,
+    },
 }
 
 impl fmt::Display for Unwritable {

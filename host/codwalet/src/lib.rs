@@ -18,13 +18,19 @@
 //!
 //! // Once it is cancelled, it counts no more.
 //! let register = register.cancel(101)?;
-//! assert_eq!(map.coverage(&register, 7).to_string(), "0 people");
+//! assert_eq!(map.coverage(&register, 7).people.to_string(), "0 people");
 //! # Ok::<(), Box<dyn std::error::Error>>(())
 //! ```
 //!
 //! A [`Map`] is checked once and then answers; a [`Register`] is a plain value, and a grant or a cancellation hands back the next
-//! one. A [`Refusal`] has document 01's number and words. What is proved are the engine's answers, which these types hand on;
-//! [`Map::areas`], [`Map::fault`], [`Licence::flaw`] and [`write_map`] are this library's own.
+//! one. A [`Refusal`] has the number and the words of the rules, which the project calls document 01.
+//!
+//! What is proved are the engine's answers, which these types hand on. The library's own are [`write_map`], what it reads from a
+//! map by itself ([`Map::areas`], [`Map::area_count`], [`AreaHead::cells`], [`Map::fault`], and so the rows and columns of a
+//! [`Footprint`]), and what it says of a licence ([`Licence::flaw`], [`Licence::covers`], [`GeoBox::covers`]). Tests hold them against
+//! the engine.
+
+#![warn(missing_docs)]
 
 mod amounts;
 mod area;
@@ -44,6 +50,7 @@ pub use footprint::{Footprint, Workspace};
 pub use layout::{Fault, Unwritable, write_map};
 pub use licence::{Flaw, GeoBox, Ground, Licence};
 pub use map::Map;
-pub use proposal::{Blocks, Gets, Given, Kind, Part, Proposal};
+pub use proposal::{Blocks, Coverage, Gets, Given, Kind, Part, Proposal};
+pub use raw::Entry;
 pub use refusal::Refusal;
-pub use register::Register;
+pub use register::{Register, WrongLength};

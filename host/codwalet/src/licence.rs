@@ -7,9 +7,13 @@ use std::fmt;
 /// It covers the cells with south <= latitude < north and west <= longitude < east.
 #[derive(Clone, Copy, Debug, PartialEq, Eq, PartialOrd, Ord, Hash)]
 pub struct GeoBox {
+    /// The southern edge, which belongs to the box.
     pub south: i32,
+    /// The northern edge, which does not.
     pub north: i32,
+    /// The western edge, which belongs to the box.
     pub west: i32,
+    /// The eastern edge, which does not.
     pub east: i32,
 }
 
@@ -66,10 +70,12 @@ impl Licence {
         Licence { call_sign, ground: Ground::Box(edges) }
     }
 
+    /// The number under which the licence is granted and cancelled.
     pub fn call_sign(&self) -> u32 {
         self.call_sign
     }
 
+    /// What the licence is for.
     pub fn ground(&self) -> Ground {
         self.ground
     }
@@ -123,6 +129,7 @@ impl Licence {
 #[derive(Clone, Copy, Debug, PartialEq, Eq, Hash)]
 #[non_exhaustive]
 pub enum Flaw {
+    /// No licence has call sign 0.
     CallSignZero,
     /// The number of an area that no map can have.
     AreaNumber(u16),
@@ -130,14 +137,21 @@ pub enum Flaw {
     Latitude(i32),
     /// An edge beyond half the way around.
     Longitude(i32),
+    /// The box has no height.
     SouthNotBelowNorth {
+        /// Its southern edge.
         south: i32,
+        /// Its northern edge.
         north: i32,
     },
+    /// The box has no width.
     WestNotBelowEast {
+        /// Its western edge.
         west: i32,
+        /// Its eastern edge.
         east: i32,
     },
+    /// The ground is neither an area nor a box.
     NoGround,
 }
 

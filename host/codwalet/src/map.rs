@@ -2,7 +2,8 @@
 
 use crate::layout::{self, Fault, Head};
 use crate::proposal::area_number;
-use crate::{AreaHead, Blocks, Footprint, People, Proposal, Refusal, Register, Workspace, raw};
+use crate::raw::{self, Entry};
+use crate::{AreaHead, Blocks, Coverage, Footprint, People, Proposal, Refusal, Register, Workspace};
 use std::borrow::Cow;
 use std::fmt;
 use std::sync::OnceLock;
@@ -20,7 +21,12 @@ impl<'a> Map<'a> {
     ///
     /// # Errors
     ///
-    /// 1 to 5 if the engine refuses the map; [`Map::fault`] finds the byte.
+    /// 1 to 5, if the engine refuses the map: [`Refusal::MapEnds`], [`Refusal::MapLimit`], [`Refusal::MapExtra`],
+    /// [`Refusal::MapOrder`] or [`Refusal::MapPopulation`]. [`Map::fault`] finds the byte.
+    ///
+    /// # Panics
+    ///
+    /// As [`raw::check_version`].
     pub fn new(bytes: &'a [u8]) -> Result<Map<'a>, Refusal> {
         Map::accept(Cow::Borrowed(bytes))
     }
@@ -30,6 +36,10 @@ impl<'a> Map<'a> {
     /// # Errors
     ///
     /// As [`Map::new`].
+    ///
+    /// # Panics
+    ///
+    /// As [`raw::check_version`].
     pub fn owned(bytes: Vec<u8>) -> Result<Map<'static>, Refusal> {
         Map::accept(Cow::Owned(bytes))
     }
@@ -42,7 +52,12 @@ impl<'a> Map<'a> {
 
     /// Where a refused map goes wrong. The engine answers the refusal alone, so the byte comes from another reading of the map,
     /// which is not proved: None where the engine accepts the map, and where that reading finds another refusal than the engine.
+    ///
+    /// # Panics
+    ///
+    /// As [`raw::check_version`].
     pub fn fault(bytes: &[u8]) -> Option<Fault> {
+        raw::check_version();
         let fault = layout::heads(bytes).err()?;
         (fault.refusal.number() == raw::check_map(bytes)).then_some(fault)
     }
@@ -83,10 +98,9 @@ impl<'a> Map<'a> {
         })
     }
 
-    /// The people that licences in force cover in an area; a cell under two licences counts twice.
-    /// 0 if the map lacks the number.
-    pub fn coverage(&self, register: &Register, number: u16) -> People {
-        People(raw::coverage(&self.bytes, register.0, number).people)
+    /// What licences in force cover in an area, 0 if the map lacks the number.
+    pub fn coverage(&self, register: &Register, number: u16) -> Coverage {
+        Coverage::from_raw(&raw::coverage(&self.bytes, register.0, number))
     }
 
     /// The blocks of an area, 0 and nothing partial if the map lacks the number.
@@ -98,7 +112,7 @@ impl<'a> Map<'a> {
     ///
     /// # Errors
     ///
-    /// 12 if more than 20 areas are partial.
+    /// [`Refusal::TooManyPartial`].
     pub fn propose(&self, register: &Register, draw: u32) -> Result<Proposal, Refusal> {
         let answer = raw::propose(&self.bytes, register.0, draw);
         Refusal::accepted(answer.refusal)?;
@@ -110,7 +124,7 @@ impl<'a> Map<'a> {
     ///
     /// # Errors
     ///
-    /// 12 if more than 20 areas are partial, 13 if the proposal is not of kind 3.
+    /// [`Refusal::TooManyPartial`], or [`Refusal::NotOnePart`] if the proposal is not of kind 3.
     pub fn footprint(&self, register: &Register, draw: u32) -> Result<Footprint, Refusal> {
         let mut workspace = Workspace::new();
         match self.footprint_in(register, draw, &mut workspace) {
@@ -126,7 +140,7 @@ impl<'a> Map<'a> {
     ///
     /// # Errors
     ///
-    /// As [`Map::footprint`]; 8 if the workspace's table is too short, with the entries that it needs.
+    /// As [`Map::footprint`]; [`Refusal::TableShort`] if the workspace's table is too short.
     pub fn footprint_in(
         &self,
         register: &Register,
@@ -135,9 +149,8 @@ impl<'a> Map<'a> {
     ) -> Result<Footprint, Refusal> {
         let Workspace { mask, table } = workspace;
         let area = self.footprint_into(register, draw, mask, table)?;
-        // A footprint is of an area of the map.
         let head = self.heads().iter().find(|head| head.number == area);
-        let (rows, columns) = head.map_or((0, 0), |head| (head.rows, head.columns));
+        let &Head { rows, columns, .. } = head.expect("a footprint is of an area of the map");
         Ok(Footprint { area, rows, columns, mask: mask[..rows * columns].to_vec() })
     }
 
@@ -146,14 +159,13 @@ impl<'a> Map<'a> {
     ///
     /// # Errors
     ///
-    /// 12 if more than 20 areas are partial, 13 if the proposal is not of kind 3, 7 if the mask is shorter than the area's
-    /// rows x columns, 8 if the table is too short, where these bytes of the mask become 0.
+    /// As [`Map::footprint`]; [`Refusal::MaskShort`]; [`Refusal::TableShort`], where the mask's bytes for the area become 0.
     pub fn footprint_into(
         &self,
         register: &Register,
         draw: u32,
         mask: &mut [u8],
-        table: &mut [u16],
+        table: &mut [Entry],
     ) -> Result<u16, Refusal> {
         let answer = raw::footprint(&self.bytes, register.0, draw, mask, table);
         match Refusal::from_raw(answer.refusal, answer.needed) {

@@ -1,12 +1,27 @@
-//! Blocks of one area, and the proposal over all of them.
+//! Coverage and blocks of one area, and the proposal over all of them.
 
-use crate::{Weighted, raw};
+use crate::{People, Weighted, raw};
 use std::fmt;
+
+/// What licences in force cover in an area.
+#[derive(Clone, Copy, Debug, Default, PartialEq, Eq)]
+#[non_exhaustive]
+pub struct Coverage {
+    /// c: the people in covered cells. A cell under two licences counts twice.
+    pub people: People,
+}
+
+impl Coverage {
+    pub(crate) fn from_raw(covered: &raw::Covered) -> Coverage {
+        Coverage { people: People(covered.people) }
+    }
+}
 
 /// What an area holds in blocks of 100 MHz.
 #[derive(Clone, Copy, Debug, Default, PartialEq, Eq)]
 #[non_exhaustive]
 pub struct Blocks {
+    /// Whole blocks.
     pub whole: u64,
     /// What is held beyond the whole blocks, if the area is partial.
     pub part: Option<Part>,
@@ -23,7 +38,9 @@ impl Blocks {
 #[derive(Clone, Copy, Debug, PartialEq, Eq)]
 #[non_exhaustive]
 pub struct Part {
+    /// v, what is held.
     pub value: Weighted,
+    /// M, the whole block.
     pub size: Weighted,
 }
 
@@ -68,13 +85,23 @@ impl Kind {
     }
 }
 
+impl fmt::Display for Kind {
+    fn fmt(&self, out: &mut fmt::Formatter) -> fmt::Result {
+        out.pad(self.words())
+    }
+}
+
 /// What an area gets by a proposal, beyond the whole blocks it has.
 #[derive(Clone, Copy, Debug, PartialEq, Eq, Hash)]
 #[non_exhaustive]
 pub enum Gets {
+    /// Nothing.
     Nothing,
+    /// A whole block.
     Whole,
+    /// A whole block, of which at least 90 in the hundred are held.
     RoundedUp,
+    /// A part of a block.
     Share(Weighted),
 }
 
@@ -113,9 +140,11 @@ impl fmt::Display for Gets {
 #[derive(Clone, Copy, Debug, PartialEq, Eq)]
 #[non_exhaustive]
 pub struct Given {
+    /// The area's number.
     pub number: u16,
     /// Whole blocks that the area has without the proposal.
     pub blocks: u64,
+    /// What the area gets.
     pub gets: Gets,
 }
 
@@ -136,9 +165,11 @@ impl Given {
 #[derive(Clone, Debug, PartialEq, Eq)]
 #[non_exhaustive]
 pub struct Proposal {
+    /// Whether and how one area is partial.
     pub kind: Kind,
     /// T, the sum of what the partial areas hold.
     pub target: Weighted,
+    /// What the partial area lacks to a whole block.
     pub white_space: Weighted,
     /// Areas among which the draw decided; 0 if the kind is exact.
     pub tied: u64,
@@ -168,7 +199,7 @@ impl Proposal {
     }
 }
 
-/// The C interface widens area numbers, which are at most 416.
+/// The C interface widens area numbers.
 pub(crate) fn area_number(number: u32) -> u16 {
-    u16::try_from(number).expect("the engine answers area numbers up to 416")
+    u16::try_from(number).expect("the engine answers numbers of areas")
 }

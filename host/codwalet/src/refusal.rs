@@ -1,30 +1,43 @@
 //! Refusals: why a call was refused.
 
-use crate::{Flaw, raw};
+use crate::{Flaw, grouped, raw};
 use std::fmt;
 
 /// Why a call was refused, by document 01's numbers.
 #[derive(Clone, Copy, Debug, PartialEq, Eq, Hash)]
 #[non_exhaustive]
 pub enum Refusal {
+    /// 1: the map ends before or inside a field that is due.
     MapEnds,
+    /// 2: a field of the map is outside its limits, or a bit is set past the last column.
     MapLimit,
+    /// 3: bytes follow the map's last area.
     MapExtra,
+    /// 4: an area's number is not above the one before.
     MapOrder,
+    /// 5: an area's population is 0 or too large.
     MapPopulation,
-    /// With what is wrong, as [`Licence::flaw`](crate::Licence::flaw) finds it.
+    /// 6: the call sign is 0, or the ground is ill-formed.
     IllFormed {
+        /// What is wrong, as [`Licence::flaw`](crate::Licence::flaw) finds it.
         flaw: Option<Flaw>,
     },
+    /// 7: the mask is shorter than the area's rows x columns.
     MaskShort,
-    /// `needed` entries would do.
+    /// 8: the table is too short.
     TableShort {
+        /// The entries that would do.
         needed: usize,
     },
+    /// 9: the call sign is in force already.
     InForce,
+    /// 10: as many licences are in force as can be.
     Full,
+    /// 11: the call sign is not in force.
     NotInForce,
+    /// 12: more areas are partial than a proposal can have.
     TooManyPartial,
+    /// 13: the proposal has no area with a share.
     NotOnePart,
 }
 
@@ -86,7 +99,7 @@ impl fmt::Display for Refusal {
         out.write_str(self.words())?;
         match self {
             Refusal::IllFormed { flaw: Some(flaw) } => write!(out, " ({flaw})"),
-            Refusal::TableShort { needed } => write!(out, ": {needed} entries are needed"),
+            Refusal::TableShort { needed } => write!(out, ": {} entries are needed", grouped(*needed as u64)),
             _ => Ok(()),
         }
     }
@@ -97,6 +110,7 @@ impl std::error::Error for Refusal {}
 #[cfg(test)]
 mod tests {
     use super::*;
+    use crate::limits;
 
     #[test]
     fn every_number_of_the_header_has_its_refusal() {
@@ -108,9 +122,21 @@ mod tests {
     }
 
     #[test]
+    fn words_name_the_limits() {
+        let said = [
+            (Refusal::MapPopulation, limits::POPULATION),
+            (Refusal::Full, limits::LICENCES as u64),
+            (Refusal::TooManyPartial, limits::PARTIAL_AREAS as u64),
+        ];
+        for (refusal, limit) in said {
+            assert!(refusal.words().contains(&grouped(limit)), "{refusal}");
+        }
+    }
+
+    #[test]
     fn what_comes_beside_the_number_is_said() {
-        let table = Refusal::TableShort { needed: 46 };
-        assert_eq!(table.to_string(), "the table is too short: 46 entries are needed");
+        let table = Refusal::TableShort { needed: 1_046 };
+        assert_eq!(table.to_string(), "the table is too short: 1,046 entries are needed");
         let licence = Refusal::IllFormed { flaw: Some(Flaw::AreaNumber(417)) };
         assert_eq!(
             licence.to_string(),

@@ -1,7 +1,6 @@
 //! The register: the licences in force.
 
-use crate::{Flaw, Licence, Refusal, limits, raw};
-use std::array::TryFromSliceError;
+use crate::{Flaw, Licence, Refusal, grouped, limits, raw};
 use std::fmt;
 
 /// The licences in force. It is a plain value: a refused grant or cancellation leaves the one that the caller has. Two are equal
@@ -17,6 +16,10 @@ impl Register {
     pub const BYTES: usize = size_of::<raw::Register>();
 
     /// The register with no licence in force.
+    ///
+    /// # Panics
+    ///
+    /// As [`raw::check_version`].
     pub fn empty() -> Register {
         raw::check_version();
         Register(raw::codwalet_empty())
@@ -26,7 +29,7 @@ impl Register {
     ///
     /// # Errors
     ///
-    /// In this order: 6 if the licence is ill-formed, 9 if its call sign is in force, 10 if [`Register::LIMIT`] licences are.
+    /// In this order: [`Refusal::IllFormed`], [`Refusal::InForce`], [`Refusal::Full`].
     pub fn grant(self, licence: Licence) -> Result<Register, Refusal> {
         let step = raw::codwalet_grant(self.0, licence.to_raw());
         Register::next(step).map_err(|refusal| with_flaw(refusal, licence.flaw()))
@@ -36,14 +39,15 @@ impl Register {
     ///
     /// # Errors
     ///
-    /// 11 if the call sign is not in force.
+    /// [`Refusal::NotInForce`].
     pub fn cancel(self, call_sign: u32) -> Result<Register, Refusal> {
         Register::next(raw::codwalet_cancel(self.0, call_sign))
     }
 
     /// The licences in force, in no order that means anything.
     pub fn licences(&self) -> impl Iterator<Item = Licence> + '_ {
-        self.0.places.iter().filter(|place| place.call_sign != 0).map(Licence::from_raw)
+        let raw::Register { places } = &self.0;
+        places.iter().filter(|place| place.call_sign != 0).map(Licence::from_raw)
     }
 
     /// How many licences are in force.
@@ -61,21 +65,23 @@ impl Register {
         self.licences().find(|licence| licence.call_sign() == call_sign)
     }
 
-    /// The register as bytes, to be kept: each place's fields in the order of the C struct, little-endian.
+    /// The register as bytes, to be kept: those of the C struct. They belong to version [`raw::VERSION`] of the interface.
     pub fn to_bytes(&self) -> [u8; Register::BYTES] {
-        let mut bytes = [0; Register::BYTES];
-        for (place, chunk) in self.0.places.iter().zip(bytes.chunks_exact_mut(PLACE)) {
-            chunk.copy_from_slice(&place_bytes(place));
-        }
-        bytes
+        // SAFETY: the struct is numbers without padding, as the assertion below says.
+        unsafe { std::mem::transmute(self.0) }
     }
 
-    /// The register in bytes that were kept. Any bytes are taken: a place with call sign 0 is free, and a licence with an
-    /// ill-formed ground covers nothing.
+    /// The register in bytes that were kept. Any bytes are taken, and what is in force in them counts as the engine counts it: a
+    /// place with call sign 0 is free, a ground of no kind covers nothing, and a box covers what lies between its edges, even
+    /// where no grant would accept them.
+    ///
+    /// # Panics
+    ///
+    /// As [`raw::check_version`].
     pub fn from_bytes(bytes: &[u8; Register::BYTES]) -> Register {
         raw::check_version();
-        let (places, _) = bytes.as_chunks();
-        Register(raw::Register { places: std::array::from_fn(|place| place_from(&places[place])) })
+        // SAFETY: the struct is numbers alone, which take any bytes.
+        Register(unsafe { std::mem::transmute::<[u8; Register::BYTES], raw::Register>(*bytes) })
     }
 
     fn next(step: raw::Step) -> Result<Register, Refusal> {
@@ -91,35 +97,8 @@ impl Register {
     }
 }
 
-/// Bytes of a place.
-const PLACE: usize = size_of::<raw::Licence>();
-
-fn place_bytes(place: &raw::Licence) -> [u8; PLACE] {
-    let raw::Licence { call_sign, area, kind, unused, south, north, west, east } = *place;
-    let mut bytes = [0; PLACE];
-    bytes[..4].copy_from_slice(&call_sign.to_le_bytes());
-    bytes[4..6].copy_from_slice(&area.to_le_bytes());
-    bytes[6..8].copy_from_slice(&[kind, unused]);
-    for (edge, chunk) in [south, north, west, east].iter().zip(bytes[8..].chunks_exact_mut(4)) {
-        chunk.copy_from_slice(&edge.to_le_bytes());
-    }
-    bytes
-}
-
-fn place_from(bytes: &[u8; PLACE]) -> raw::Licence {
-    let word = |start: usize| [bytes[start], bytes[start + 1], bytes[start + 2], bytes[start + 3]];
-    let edge = |start| i32::from_le_bytes(word(start));
-    raw::Licence {
-        call_sign: u32::from_le_bytes(word(0)),
-        area: u16::from_le_bytes([bytes[4], bytes[5]]),
-        kind: bytes[6],
-        unused: bytes[7],
-        south: edge(8),
-        north: edge(12),
-        west: edge(16),
-        east: edge(20),
-    }
-}
+/// Every byte of a register belongs to a number: a call sign, an area, a kind, an unused byte, or one of four edges.
+const _: () = assert!(size_of::<raw::Register>() == raw::LIMIT * (4 + 2 + 1 + 1 + 4 * 4));
 
 /// A refusal by 6, with what is wrong.
 fn with_flaw(refusal: Refusal, flaw: Option<Flaw>) -> Refusal {
@@ -135,12 +114,25 @@ impl Default for Register {
     }
 }
 
-impl TryFrom<&[u8]> for Register {
-    type Error = TryFromSliceError;
+/// Bytes that can't be a saved register, since there are too few or too many.
+#[derive(Clone, Copy, Debug, PartialEq, Eq)]
+pub struct WrongLength(pub usize);
 
-    /// The register in bytes that were kept, of which there must be [`Register::BYTES`].
-    fn try_from(bytes: &[u8]) -> Result<Register, TryFromSliceError> {
-        Ok(Register::from_bytes(bytes.try_into()?))
+impl fmt::Display for WrongLength {
+    fn fmt(&self, out: &mut fmt::Formatter) -> fmt::Result {
+        let (due, got) = (grouped(Register::BYTES as u64), grouped(self.0 as u64));
+        write!(out, "a saved register has {due} bytes, not {got}")
+    }
+}
+
+impl std::error::Error for WrongLength {}
+
+impl TryFrom<&[u8]> for Register {
+    type Error = WrongLength;
+
+    /// As [`Register::from_bytes`].
+    fn try_from(bytes: &[u8]) -> Result<Register, WrongLength> {
+        bytes.try_into().map(Register::from_bytes).map_err(|_| WrongLength(bytes.len()))
     }
 }
 

@@ -27,9 +27,11 @@ typedef struct {
     uint16_t area; /* its number */
     codwalet_pair others[CODWALET_LIMIT];
 } codwalet_pair;
+/* A word. */
+typedef uint16_t codwalet_word;
 /* The last. */
 codwalet_pair codwalet_last(const uint8_t *map, size_t map_length,
-                            uint16_t *table);
+                            codwalet_word *table);
 uint32_t codwalet_version(void);
 "#;
     let due = r#"/// Above.
@@ -46,24 +48,43 @@ pub struct Pair {
     pub area: u16,
     pub others: [Pair; LIMIT],
 }
+/// A word.
+pub type Word = u16;
 /// The refusals: the number and the words of each.
 pub const REFUSALS: [(u32, &str); 1] = [
     (FULL, "it is full"),
 ];
 unsafe extern "C" {
     /// The last.
-    pub fn codwalet_last(map: *const u8, map_length: usize, table: *mut u16) -> Pair;
+    pub fn codwalet_last(map: *const u8, map_length: usize, table: *mut Word) -> Pair;
     pub safe fn codwalet_version() -> u32;
 }
 "#;
     assert_eq!(rust::write(&header::read(text).expect("the text is read")), due);
 }
 
+/// What means something else in Rust than in C, or nothing, is not passed over.
 #[test]
 fn another_form_ends_the_build_at_its_line() {
-    for (text, line) in
-        [("\ntypedef int codwalet_word;", 2), ("#define OTHER 5", 1), ("uint8_t f(int **at);", 1), ("?", 1)]
-    {
+    let others = [
+        ("\ntypedef int codwalet_word;", 2),
+        ("#define OTHER 5", 1),
+        ("#define CODWALET_AREAS 040", 1),
+        ("#define CODWALET_AREAS 32u", 1),
+        ("# define CODWALET_AREAS 32", 1),
+        ("#define\tCODWALET_AREAS 32", 1),
+        ("\n#pragma pack(1)", 2),
+        ("#if 0", 1),
+        ("#define CODWALET_REFUSALS(X) \\\n    X(1, ENDS, \"it ends\") \\\n    X(2, TAB, \"a\\tb\")", 3),
+        ("#define CODWALET_REFUSALS(X) \\\n    X(01, ENDS, \"it ends\")\n", 2),
+        ("typedef struct {\n    uint8_t kind;\n    bool odd;\n} codwalet_held;", 3),
+        ("uint8_t f(int **at);", 1),
+        ("uint8_t f(uint8_t at[4]);", 1),
+        ("void f(void);", 1),
+        ("static const int x = 5;", 1),
+        ("?", 1),
+    ];
+    for (text, line) in others {
         assert_eq!(header::read(text), Err(Unread { line }), "{text}");
     }
 }
@@ -83,11 +104,13 @@ fn structs_are_as_large_as_the_header_says() {
         ("codwalet_outline", size_of::<raw::Outline>()),
     ];
     let items = header::read(HEADER).expect("the header is read");
-    let structs = items.iter().filter_map(|item| match item {
-        Item::Struct { doc, name, .. } => Some((name.as_str(), doc)),
+    let of_struct = |item: &Item| match item {
+        Item::Struct { doc, name, .. } => Some((name.clone(), doc.clone())),
         _ => None,
-    });
-    for ((name, doc), (named, size)) in structs.zip(sizes) {
+    };
+    let structs: Vec<(String, String)> = items.iter().filter_map(of_struct).collect();
+    assert_eq!(structs.len(), sizes.len());
+    for ((name, doc), (named, size)) in structs.iter().zip(sizes) {
         let said = format!(" {} bytes", codwalet::grouped(size as u64));
         assert!(name == named && doc.contains(&said), "{name}: {doc}");
     }

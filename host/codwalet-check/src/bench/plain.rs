@@ -16,21 +16,6 @@ use codwalet::raw::{Outline, Proposal, Register};
 use coverage::Grounds;
 pub use register::{cancel, grant};
 
-// The refusals' numbers.
-const MAP_ENDS: u32 = 1;
-const MAP_LIMIT: u32 = 2;
-const MAP_EXTRA: u32 = 3;
-const MAP_ORDER: u32 = 4;
-const MAP_POPULATION: u32 = 5;
-const ILL_FORMED: u32 = 6;
-const MASK_SHORT: u32 = 7;
-const TABLE_SHORT: u32 = 8;
-const IN_FORCE: u32 = 9;
-const FULL: u32 = 10;
-const NOT_IN_FORCE: u32 = 11;
-const TOO_MANY: u32 = 12;
-const NOT_ONE_PART: u32 = 13;
-
 /// 0 if the map is accepted, else its refusal.
 #[inline(never)]
 pub fn check_map(map: &[u8]) -> u32 {

@@ -145,7 +145,7 @@ pub fn footprint(map: &[u8], lines: &[Licence], draw: u32, mask: &mut [u8], entr
 /// How long a mask and a table the footprint with a draw needs; none where it is refused before either is looked at.
 pub fn needs(map: &[u8], lines: &[Licence], draw: u32) -> (usize, usize) {
     let proposal = propose(map, lines, draw);
-    let Some(given) = proposal.areas.iter().find(|given| given.gets == 3) else {
+    let Some(given) = proposal.areas.iter().find(|given| given.gets == raw::GETS_SHARE) else {
         return (0, 0);
     };
     let area = look_up(map, given.number as u16);

@@ -71,7 +71,7 @@ impl<'p> State<'p> {
             Call::Grant { licence, .. } => register.grant(*licence).map(|next| Outcome::Granted(self.take(next))),
             Call::Cancel(call_sign) => register.cancel(*call_sign).map(|next| Outcome::Cancelled(self.take(next))),
             Call::Coverage(number) => self.map.map(|map| Outcome::Coverage {
-                people: map.coverage(register, *number),
+                people: map.coverage(register, *number).people,
                 in_map: map.look_up(*number).is_some(),
             }),
             Call::Blocks(number) => self.map.map(|map| Outcome::Blocks {

@@ -7,8 +7,7 @@ use codwalet::{Gets, Kind, People, Refusal, Register, Weighted, Workspace, limit
 fn holdings_are_answered() {
     let map = map_of_five();
     let register = holding(1);
-    assert_eq!(map.coverage(&register, 7), People(7));
-    assert_eq!(map.coverage(&register, 8), People(0));
+    assert_eq!([7, 8].map(|number| map.coverage(&register, number).people), [People(7), People(0)]);
     let blocks = map.blocks(&register, 7);
     let part = blocks.part.map(|part| (part.value, part.size));
     assert_eq!((blocks.whole, part), (0, Some((Weighted(700), Weighted(4_000)))));
@@ -20,7 +19,7 @@ fn holdings_are_answered() {
     let given: Vec<_> = proposal.areas.iter().map(|given| (given.number, given.blocks, given.gets)).collect();
     assert_eq!(given, [(7, 0, Gets::Share(Weighted(700)))]);
     let gets = proposal.areas[0].gets;
-    assert_eq!((proposal.kind.words(), gets.words()), ("one part", "share"));
+    assert_eq!((proposal.kind.to_string().as_str(), gets.words()), ("one part", "share"));
     assert_eq!(gets.to_string(), "a share of 700 weighted MHz-pops");
     assert_eq!((proposal.partial(), proposal.share()), (proposal.areas.first(), Some(Weighted(700))));
     assert_eq!(map.footprint(&Register::empty(), 0), Err(Refusal::NotOnePart));

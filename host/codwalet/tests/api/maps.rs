@@ -71,6 +71,7 @@ fn a_refused_map_has_a_byte_at_which_it_goes_wrong() {
         assert_eq!(Map::new(&bytes), Err(refusal));
         let fault = Map::fault(&bytes).expect("the map has a fault");
         assert_eq!((fault.refusal, fault.byte), (refusal, byte));
+        assert_eq!(fault.to_string(), format!("refused, {}, at byte {byte}: {refusal}", refusal.number()));
     }
     assert_eq!(Map::fault(&sound), None);
 }

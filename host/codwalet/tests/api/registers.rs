@@ -99,7 +99,8 @@ fn kept_registers_are_read_back() {
     assert_eq!((bytes.len(), Register::from_bytes(&bytes)), (1_536, register));
     assert_eq!(Register::from_bytes(&bytes).to_bytes(), bytes);
     assert_eq!(Register::try_from(&bytes[..]).ok(), Some(register));
-    assert!(Register::try_from(&bytes[1..]).is_err());
+    let cut = Register::try_from(&bytes[1..]).map_err(|why| why.to_string());
+    assert_eq!(cut, Err("a saved register has 1,536 bytes, not 1,535".to_string()));
 }
 
 /// A place has 24 bytes, its call sign first and its kind of ground at byte 6.
@@ -115,9 +116,20 @@ fn any_bytes_are_a_register_and_only_what_is_in_force_counts() {
     bytes[24 + 6] = 7;
     let register = Register::from_bytes(&bytes);
     assert_eq!(register.get(2).map(|licence| licence.ground()), Some(Ground::None));
-    assert_eq!((register.len(), map.coverage(&register, 7)), (2, People(7)));
+    assert_eq!((register.len(), map.coverage(&register, 7).people), (2, People(7)));
     // Every place in force, with whatever ground.
     let crowded = Register::from_bytes(&[0xFF; Register::BYTES]);
-    assert_eq!((crowded.len(), crowded.is_empty(), map.coverage(&crowded, 7)), (64, false, People(0)));
+    assert_eq!((crowded.len(), crowded.is_empty(), map.coverage(&crowded, 7).people), (64, false, People(0)));
     assert_eq!(crowded.cancel(u32::MAX), Ok(Register::empty()));
+}
+
+/// The southern edge of a place is at byte 8. No grant accepts an edge beyond the south pole, but the box covers its cells.
+#[test]
+fn a_box_past_the_limits_covers_what_lies_between_its_edges() {
+    let mut bytes = holding(1).to_bytes();
+    bytes[8..12].copy_from_slice(&i32::MIN.to_le_bytes());
+    let register = Register::from_bytes(&bytes);
+    let licence = register.get(1).expect("the licence is in force");
+    assert_eq!((licence.flaw(), Register::empty().grant(licence).is_err()), (Some(Flaw::Latitude(i32::MIN)), true));
+    assert_eq!(map_of_five().coverage(&register, 7).people, People(7));
 }

@@ -4,10 +4,9 @@
 use super::coverage::Grounds;
 use super::last_ring::leave_out;
 use super::map::{self, Area};
-use super::proposal::{self, GETS_SHARE};
-use super::{MASK_SHORT, NOT_ONE_PART, TABLE_SHORT};
+use super::proposal;
 use codwalet::limits::SIDE;
-use codwalet::raw::Outline;
+use codwalet::raw::{GETS_SHARE, MASK_SHORT, NOT_ONE_PART, Outline, TABLE_SHORT};
 
 /// The partial area by place: its people, its cells, and the set that becomes its footprint. There is a place without
 /// a cell after each row, and a row of such places before the first and after the last, so that each cell has a place

@@ -2,8 +2,8 @@
 
 use super::coverage::Grounds;
 use super::row::{CELL, Row, people_within_limits};
-use super::{MAP_ENDS, MAP_EXTRA, MAP_LIMIT, MAP_ORDER, MAP_POPULATION};
 use codwalet::limits::{AREA_NUMBER, AREAS, LATITUDE, LONGITUDE, PEOPLE, POPULATION, SIDE, WEIGHT};
+use codwalet::raw::{MAP_ENDS, MAP_EXTRA, MAP_LIMIT, MAP_ORDER, MAP_POPULATION};
 
 /// An area of a map, with the people that licences cover in it.
 pub struct Area<'a> {

@@ -1,19 +1,11 @@
 //! The proposal from areas that are not refused.
 
-use super::TOO_MANY;
 use super::map::Area;
 use super::search::{Best, Search};
 use codwalet::limits::{AREAS, PARTIAL_AREAS};
-use codwalet::raw::{Given, Held, Proposal};
-
-const EXACT: u32 = 1;
-const ROUNDED_UP: u32 = 2;
-const ONE_PART: u32 = 3;
-
-const GETS_WHOLE: u32 = 1;
-const GETS_ROUNDED_UP: u32 = 2;
-/// What the area of a footprint gets.
-pub const GETS_SHARE: u32 = 3;
+use codwalet::raw::{
+    EXACT, GETS_ROUNDED_UP, GETS_SHARE, GETS_WHOLE, Given, Held, ONE_PART, Proposal, ROUNDED_UP, TOO_MANY,
+};
 
 /// The answer that a refusal comes with.
 pub fn refused(refusal: u32) -> Proposal {

@@ -1,8 +1,7 @@
 //! Grant and cancellation. A register is passed as C passes it, which costs a copy.
 
-use super::{FULL, ILL_FORMED, IN_FORCE, NOT_IN_FORCE};
 use codwalet::limits::{AREA_NUMBER, LATITUDE, LONGITUDE};
-use codwalet::raw::{GROUND_AREA, GROUND_BOX, Licence, Register, Step};
+use codwalet::raw::{FULL, GROUND_AREA, GROUND_BOX, ILL_FORMED, IN_FORCE, Licence, NOT_IN_FORCE, Register, Step};
 
 /// The register with a licence granted. Refused by 6, 9 or 10.
 #[inline(never)]
