@@ -4,16 +4,17 @@
 //! Blank lines and lines that start with `#` are passed over.
 
 mod areas;
+mod cells;
 mod field;
 mod header;
 mod mistake;
 mod records;
+mod units;
 
-use areas::{Areas, CellLine};
+use areas::Areas;
+use cells::Cells;
 use codwalet::{Map, write_map};
-use header::Header;
-pub use mistake::{Column, CsvMistake, CsvMistakes, FieldWrong, Found, Wrong};
-use records::{Record, Records};
+pub use mistake::{Column, CsvMistake, CsvMistakes, FieldWrong, Found, QuoteWrong, Wrong};
 use std::path::Path;
 
 /// A header with the columns in their usual order.
@@ -24,8 +25,8 @@ pub const HEADER: &str = "area,weight,row,column,people,latitude,longitude";
 pub struct Built {
     /// The map, which the engine accepts.
     pub bytes: Vec<u8>,
-    /// The columns that a map has no use for, as the header names them.
-    pub unused: Vec<String>,
+    /// What is to be said of the text that is no mistake.
+    pub notes: Vec<String>,
 }
 
 /// Whether a file is CSV text: if its first line that is neither blank nor a comment names a column; else if its name
@@ -47,58 +48,25 @@ pub fn has_csv_name(file: &Path) -> bool {
 /// # Errors
 /// All mistakes: first those of single lines, then those of the whole map.
 pub fn build(text: &[u8]) -> Result<Built, Vec<Found>> {
-    let text = std::str::from_utf8(text).map_err(|why| vec![(line_of(text, why.valid_up_to()), Wrong::NotText)])?;
+    let text = std::str::from_utf8(text).map_err(|why| vec![not_text(text, why.valid_up_to())])?;
     let (header, records) = header::read(text)?;
-    let (cells, mut mistakes) = read_cells(&header, records);
-    let areas = Areas::gather(cells, &mut mistakes);
+    let cells = Cells::read(&header, records);
+    let notes = header.unused_note().into_iter().chain(cells.units_note()).collect();
+    let mut mistakes = cells.mistakes;
+    let areas = Areas::gather(cells.lines, &mut mistakes);
     if !mistakes.is_empty() {
         return Err(mistakes);
     }
     let bytes = write_map(&areas.to_new()).map_err(|why| vec![(0, Wrong::Unwritable(why.to_string()))])?;
     Map::new(&bytes).map_err(|refusal| vec![(0, Wrong::Refused(refusal))])?;
-    Ok(Built { bytes, unused: header.unused })
+    Ok(Built { bytes, notes })
 }
 
-/// The line in which a byte is.
-fn line_of(text: &[u8], byte: usize) -> usize {
-    1 + text[..byte].iter().filter(|&&byte| byte == b'\n').count()
-}
-
-/// The lines that can be read, and the mistakes of the others.
-fn read_cells(header: &Header, records: Records) -> (Vec<CellLine>, Vec<Found>) {
-    let (mut cells, mut mistakes) = (Vec::new(), Vec::new());
-    for (line, fields) in records {
-        match fields.map_err(|wrong| vec![wrong]).and_then(|fields| read_cell(header, line, &fields)) {
-            Ok(cell) => cells.push(cell),
-            Err(wrong) => mistakes.extend(wrong.into_iter().map(|wrong| (line, wrong))),
-        }
-    }
-    (cells, mistakes)
-}
-
-/// The cell of a line, or all that is wrong with its fields.
-fn read_cell(header: &Header, line: usize, fields: &Record) -> Result<CellLine, Vec<Wrong>> {
-    if fields.len() != header.width {
-        return Err(vec![Wrong::FieldCount { count: fields.len(), due: header.width }]);
-    }
-    let mut wrong = Vec::new();
-    let mut read = |column: Column| {
-        let value = field::read(column, &fields[header.place(column)]);
-        value.unwrap_or_else(|why| {
-            wrong.push(why);
-            0
-        })
-    };
-    // No column's limit is beyond its type.
-    let cell = CellLine {
-        line,
-        area: read(Column::Area) as u16,
-        weight: read(Column::Weight) as u32,
-        row: read(Column::Row) as usize,
-        column: read(Column::Column) as usize,
-        people: read(Column::People) as u32,
-        latitude: read(Column::Latitude) as i32,
-        longitude: read(Column::Longitude) as i32,
-    };
-    if wrong.is_empty() { Ok(cell) } else { Err(wrong) }
+/// What is not UTF-8 in a text: its line, and the word around it.
+fn not_text(text: &[u8], byte: usize) -> Found {
+    let ends_word = |byte: &u8| b",;\t\r\n\"".contains(byte);
+    let start = text[..byte].iter().rposition(ends_word).map_or(0, |place| place + 1);
+    let end = text[byte..].iter().position(ends_word).map_or(text.len(), |length| byte + length);
+    let line = 1 + text[..byte].iter().filter(|&&byte| byte == b'\n').count();
+    (line, Wrong::NotText(String::from_utf8_lossy(&text[start..end]).into_owned()))
 }

@@ -1,7 +1,9 @@
 //! Files: read whole, written whole or left as they were, and told apart. `-` is standard input or standard output.
 
-use std::fs::{self, File, OpenOptions, Permissions};
+use crate::shown::shown;
+use std::fs::{self, File, Metadata, OpenOptions, Permissions};
 use std::io::{self, Read, Write};
+use std::os::fd::AsFd;
 use std::os::unix::fs::MetadataExt;
 use std::path::{Path, PathBuf};
 
@@ -12,7 +14,7 @@ pub fn is_standard(path: &Path) -> bool {
 
 /// How messages call a file that is read.
 pub fn name_of(path: &Path) -> String {
-    if is_standard(path) { "standard input".to_string() } else { path.display().to_string() }
+    if is_standard(path) { "standard input".to_string() } else { shown(path) }
 }
 
 /// The bytes of a file, or of standard input.
@@ -77,12 +79,19 @@ fn create_beside(target: &Path) -> io::Result<(PathBuf, File)> {
     Err(io::ErrorKind::AlreadyExists.into())
 }
 
-/// Where the links from a path lead, if a file is missing there.
+/// Links that are followed from a path; Linux follows no more.
+const LINKS: usize = 40;
+
+/// Where the links from a path lead, if a file is missing there; the path itself if they lead on and on.
 fn end_of_links(path: &Path) -> PathBuf {
-    match fs::read_link(path) {
-        Ok(target) => end_of_links(&folder_of(path).join(target)),
-        Err(_) => path.to_path_buf(),
+    let mut end = path.to_path_buf();
+    for _ in 0..=LINKS {
+        match fs::read_link(&end) {
+            Ok(target) => end = folder_of(&end).join(target),
+            Err(_) => return end,
+        }
     }
+    path.to_path_buf()
 }
 
 /// The folder that a path's last name is in.
@@ -105,12 +114,27 @@ pub enum Identity {
 impl Identity {
     /// The identity of the file at a path; of `-`, that of standard input.
     pub fn of(path: &Path) -> Identity {
-        let path = if is_standard(path) { Path::new("/dev/stdin") } else { path };
-        if let Ok(found) = fs::metadata(path) {
-            return Identity::Found { device: found.dev(), number: found.ino() };
+        let found = if is_standard(path) { metadata_of(&io::stdin()) } else { fs::metadata(path) };
+        if let Ok(found) = found {
+            return Identity::found(&found);
         }
         let end = end_of_links(path);
         let name = end.file_name().unwrap_or_default();
         Identity::Missing(fs::canonicalize(folder_of(&end)).map_or(end.clone(), |folder| folder.join(name)))
     }
+
+    /// The identity of standard output. There is none where all that is written is thrown away.
+    pub fn of_output() -> Option<Identity> {
+        let output = Identity::found(&metadata_of(&io::stdout()).ok()?);
+        (output != Identity::of(Path::new("/dev/null"))).then_some(output)
+    }
+
+    fn found(found: &Metadata) -> Identity {
+        Identity::Found { device: found.dev(), number: found.ino() }
+    }
+}
+
+/// What the system knows of a file that is open.
+fn metadata_of(open: &impl AsFd) -> io::Result<Metadata> {
+    File::from(open.as_fd().try_clone_to_owned()?).metadata()
 }

@@ -9,3 +9,4 @@ pub mod maps;
 mod mistakes;
 pub mod picture;
 pub mod plan;
+mod shown;

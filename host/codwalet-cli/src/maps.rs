@@ -1,6 +1,5 @@
 //! Maps from files: bytes as they are, or built from CSV text.
 
-use crate::answers::word_for;
 use crate::csv::{self, Built, CsvMistake, CsvMistakes, Found};
 use crate::files;
 use std::fmt;
@@ -10,8 +9,8 @@ use std::path::Path;
 #[derive(Clone, Debug, PartialEq, Eq)]
 pub struct MapFile {
     pub bytes: Vec<u8>,
-    /// What is to be said of a CSV file that is no mistake.
-    pub note: Option<String>,
+    /// What is to be said of the file that is no mistake.
+    pub notes: Vec<String>,
 }
 
 /// Why a file gives no map.
@@ -39,7 +38,35 @@ impl std::error::Error for NoMap {}
 /// The file can't be read, or it is CSV text with mistakes.
 pub fn read(file: &Path) -> Result<MapFile, NoMap> {
     let bytes = files::read(file).map_err(|why| NoMap::CannotRead(why.to_string()))?;
-    if csv::is_csv(file, &bytes) { built(file, &bytes) } else { Ok(MapFile { bytes, note: None }) }
+    if csv::is_csv(file, &bytes) {
+        return built(file, &bytes);
+    }
+    let notes = is_text(&bytes).then(|| noted(&files::name_of(file), &text_words())).into_iter().collect();
+    Ok(MapFile { bytes, notes })
+}
+
+/// Bytes that tell whether a file is text.
+const START: usize = 256;
+
+/// Whether a file starts as text does. No map that the engine accepts is text, see [`csv::is_csv`].
+fn is_text(bytes: &[u8]) -> bool {
+    let start = &bytes[..bytes.len().min(START)];
+    let text = match std::str::from_utf8(start) {
+        Ok(text) => text,
+        // The start may end within a character.
+        Err(why) if why.error_len().is_none() => std::str::from_utf8(&start[..why.valid_up_to()]).unwrap_or(""),
+        Err(_) => "",
+    };
+    !text.is_empty() && text.chars().all(|character| !character.is_control() || character.is_whitespace())
+}
+
+/// What is said of text that is no CSV by its first line: it is answered as the bytes of a map, which it is not.
+fn text_words() -> String {
+    format!("it looks like text; as CSV its first line must name {}", csv::HEADER.replace(',', ", "))
+}
+
+fn noted(name: &str, note: &str) -> String {
+    format!("{name}: note: {note}")
 }
 
 /// Builds a map from a file that is CSV text, whatever it looks like.
@@ -53,16 +80,8 @@ pub fn build(file: &Path) -> Result<MapFile, NoMap> {
 
 fn built(file: &Path, text: &[u8]) -> Result<MapFile, NoMap> {
     let name = files::name_of(file);
-    let Built { bytes, unused } = csv::build(text).map_err(|list| NoMap::Csv(mistakes(&name, list)))?;
-    let note = (!unused.is_empty()).then(|| format!("{name}: note: {}", unused_words(&unused)));
-    Ok(MapFile { bytes, note })
-}
-
-fn unused_words(columns: &[String]) -> String {
-    let names: Vec<String> = columns.iter().map(|name| format!("'{name}'")).collect();
-    let count = columns.len() as u64;
-    let (noun, verb) = (word_for(count, "column", "columns"), word_for(count, "is", "are"));
-    format!("{noun} {} {verb} not used", names.join(", "))
+    let Built { bytes, notes } = csv::build(text).map_err(|list| NoMap::Csv(mistakes(&name, list)))?;
+    Ok(MapFile { bytes, notes: notes.iter().map(|note| noted(&name, note)).collect() })
 }
 
 fn mistakes(file: &str, list: Vec<Found>) -> CsvMistakes {

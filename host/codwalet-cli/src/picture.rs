@@ -7,6 +7,7 @@ mod svg;
 mod terminal;
 
 use crate::beyond::ring::{self, Start};
+use crate::beyond::value_of;
 use codwalet::{Cell, Footprint, GeoBox, Ground, Licence, Map, Refusal, Register, Weighted};
 pub use svg::svg;
 pub use terminal::terminal;
@@ -115,14 +116,9 @@ impl Drawing {
         })
     }
 
-    /// V of a set of places.
-    fn value(&self, set: &[bool]) -> Weighted {
-        Weighted(100 * u64::from(self.weight) * self.count(|place| set[place]).people)
-    }
-
     /// What the footprint carries.
     pub fn carries(&self) -> Weighted {
-        self.value(&self.footprint)
+        value_of(self.weight, self.count(|place| self.footprint[place]).people)
     }
 
     /// The licences for boxes, by call sign.

@@ -13,6 +13,7 @@
 
 pub mod coordinate;
 mod mistake;
+mod name;
 mod note;
 mod reader;
 pub mod run;
@@ -21,6 +22,7 @@ mod words;
 use crate::files;
 use codwalet::{Licence, Map, Refusal};
 pub use mistake::{Mistake, Over, Wrong};
+pub use name::Name;
 pub use note::Note;
 use reader::Reader;
 use std::path::{Path, PathBuf};
@@ -51,8 +53,8 @@ pub struct Step {
 pub enum Call {
     /// The calls that follow read this map. A refused map answers them with its refusal.
     Map { file: String, map: Rc<Result<Map<'static>, Refusal>> },
-    /// A note says that the licence covers nothing on the map before it.
-    Grant { licence: Licence, note: Option<Note> },
+    /// The notes say what of the licence may be meant otherwise.
+    Grant { licence: Licence, notes: Vec<Note> },
     /// By call sign.
     Cancel(u32),
     /// Of the area with a number.
@@ -67,15 +69,15 @@ pub enum Call {
 
 impl Call {
     /// The word that a line with this call starts with.
-    pub fn name(&self) -> &'static str {
+    pub fn name(&self) -> Name {
         match self {
-            Call::Map { .. } => "map",
-            Call::Grant { .. } => "grant",
-            Call::Cancel(_) => "cancel",
-            Call::Coverage(_) => "coverage",
-            Call::Blocks(_) => "blocks",
-            Call::Propose(_) => "propose",
-            Call::Footprint(..) => "footprint",
+            Call::Map { .. } => Name::Map,
+            Call::Grant { .. } => Name::Grant,
+            Call::Cancel(_) => Name::Cancel,
+            Call::Coverage(_) => Name::Coverage,
+            Call::Blocks(_) => Name::Blocks,
+            Call::Propose(_) => Name::Propose,
+            Call::Footprint(..) => Name::Footprint,
         }
     }
 
@@ -87,7 +89,8 @@ impl Call {
     }
 }
 
-/// Reads a plan and the maps that it names. If it is strict, a licence that covers nothing on its map is a mistake.
+/// Reads a plan and the maps that it names. If it is strict, what would be noted on a licence is a mistake, and so is a
+/// licence above the first map.
 ///
 /// # Errors
 /// All that is wrong with the plan, by line.

@@ -19,6 +19,8 @@ const HELP: &str = "\
 --help              | codwalet: which areas
 -h                  | codwalet: which areas
 help                | codwalet: which areas
+help help           | codwalet: which areas
+--version --help    | codwalet: which areas
 run --help          | codwalet run PLAN [--json] [--strict]
 run x -h            | codwalet run PLAN
 run help            | codwalet run PLAN
@@ -106,6 +108,61 @@ fn a_file_that_is_no_map_is_a_mistake() {
     let said = "'none.map' cannot be read: No such file or directory (os error 2)\n";
     for words in [&["map", "show", "none.map"][..], &["check", "none.map"], &["map", "build", "none.map", "x"]] {
         assert_eq!(codwalet(&folder, words).said(), (Some(2), said));
+    }
+}
+
+#[test]
+fn a_link_to_itself_is_no_file() {
+    let folder = folder("loop");
+    std::os::unix::fs::symlink("self", folder.join("self")).expect("a link is made");
+    let why = "Too many levels of symbolic links (os error 40)\n";
+    let ended = codwalet(&folder, &["map", "build", "good.csv", "self"]);
+    assert_eq!(ended.said(), (Some(1), format!("'self' cannot be written: {why}").as_str()));
+    let ended = codwalet(&folder, &["map", "build", "self", "it.map"]);
+    assert_eq!(ended.said(), (Some(2), format!("'self' cannot be read: {why}").as_str()));
+}
+
+#[test]
+fn text_that_is_no_csv_is_noted() {
+    let folder = folder("text");
+    let check = |input: &[u8]| ended(codwalet_reading(&folder, &["check", "-"], input));
+    let names = "area, weight, row, column, people, latitude, longitude";
+    let said = format!("standard input: note: it looks like text; as CSV its first line must name {names}\n");
+    // The longer one is cut within a character.
+    for text in ["7,1,0,0,60,39.5N,100W\r\n", &format!("x{}", "é".repeat(200))] {
+        assert_eq!(check(text.as_bytes()).said(), (Some(3), said.as_str()), "{text}");
+    }
+    for bytes in [&b""[..], &[33, 7, 0, 1], b"text\xff", b"text\x1b"] {
+        assert_eq!(check(bytes).said(), (Some(3), ""), "{bytes:?}");
+    }
+}
+
+/// Commands that name what a terminal would obey.
+const OBEYED: [&[&str]; 9] = [
+    &["wa\x1blk"],
+    &["--version", "\x1b"],
+    &["run", "--\x1b", "x"],
+    &["map", "\x1b"],
+    &["run", "\x1b.plan"],
+    &["check", "\x1b.csv"],
+    &["map", "build", "good.csv", "no\x1b/it.map"],
+    &["map", "build", "good.csv", "\x1b.map"],
+    &["run", "it\x1b.plan"],
+];
+
+#[test]
+fn nothing_that_is_named_moves_the_cursor() {
+    let folder = folder("cursor");
+    let csv = CSV.replace("area,", "n\x1bote,area,").replace("\n7,", "\nx,7,");
+    let wrong = CSV.replace("\n7,", "\n7\x1b,").replace("39.5N", "\"39\x1b\"N");
+    let plan = "map noted\x1b.csv\ngrant 1 area 7\nfootprint 0 svg \x1b.svg\nfootprint 0 svg no/\x1b.svg\n";
+    for (name, text) in [("noted\x1b.csv", csv.as_str()), ("\x1b.csv", &wrong), ("it\x1b.plan", plan)] {
+        std::fs::write(folder.join(name), text).expect("the file is written");
+    }
+    for words in OBEYED {
+        let ended = codwalet(&folder, words);
+        let said = format!("{}{}", ended.out, ended.err);
+        assert!(said.contains('\u{fffd}') && !said.contains('\x1b'), "{words:?}: {said}");
     }
 }
 

@@ -13,7 +13,7 @@ fn bytes_of(text: &str) -> Vec<u8> {
 #[test]
 fn lines_in_any_order_make_the_map() {
     let text = "\u{feff}area,weight,row,column,people,latitude,longitude\r\n\
-                9,3,0,0,1,-32400000,64800000\r\n\
+                9,3,0,0,1,90S,180E\r\n\
                 \r\n\
                 7, 2, 1, 8, 5, 0.5N, 1W\r\n\
                 7,2,0,0,1000000,90N,180W\r\n";
@@ -36,7 +36,7 @@ fn lines_in_any_order_make_the_map() {
 }
 
 /// Texts that make the same map as `CSV`, each written in another way.
-const SAME_MAP: [&str; 7] = [
+const SAME_MAP: [&str; 8] = [
     // Columns in another order, their names in capitals.
     "Longitude,LATITUDE,people,column,row,weight,Area\n\
      100W,39.5N,60,0,0,1,7\n\
@@ -62,7 +62,11 @@ const SAME_MAP: [&str; 7] = [
     // A dot makes degrees, and whole numbers may have zeros behind one.
     "area,weight,row,column,people,latitude,longitude\n\
      7.0,1.00,0,0,60.0,39.5,-100.0\n\
-     7,1,0,1.0,40,14220000,-35992800\n",
+     7,1,0,1.0,40,39.5,-99.98\n",
+    // Hundredths of an arc second, and comments behind blanks.
+    "area,weight,row,column,people,latitude,longitude\n \t# 7\n\
+     7,1,0,0,60,14220000,-36000000\n\
+     7,1,0,1,40,14220000,-35992800\n",
     // Columns that a map has no use for, one of them over two lines.
     "area,name,weight,row,column,people,latitude,longitude\n\
      7,\"a, \"\"b\"\"\nc\",1,0,0,60,39.5N,100W\n\
@@ -83,16 +87,18 @@ fn the_usual_header_names_every_column() {
 
 /// Lines that stand below the header and a good line for area 7, and what is said of them.
 const WRONG_LINES: &str = "\
-7                          | 1 field where 7 are due
-7,1,0,1,5,39.5N            | 6 fields where 7 are due
-7,1,0,1,5,39.5N,100W,      | 8 fields where 7 are due
-7,1,0,1,5,39.5N,\"100W     | a field starts with a quote and none ends it
-7,1,0,1,\"5\"0,39.5N,100W  | a field goes on behind its closing quote
+7                          | 1 field where 7 are due; the last is '7'
+7,1,0,1,5,39.5N            | 6 fields where 7 are due; the last is '39.5N'
+7,1,0,1,5,39.5N,100W,x     | 8 fields where 7 are due; the last is 'x'
+7,1,0,1,5,39.5N,\"100W     | column longitude: '\"100W' starts with a quote and none ends it
+7,1,0,1,\"5\"0,39.5N,100W  | column people: '\"5\"0' goes on behind its closing quote
 x,1,0,1,5,39.5N,100W       | column area: 'x' is not written in digits
 7,1,0,1,1e3,39.5N,100W     | column people: '1e3' is not written in digits
 7,1,0,1,\"1,000\",39.5N,1W | column people: '1,000' is not written in digits
 7,1,0,1,,39.5N,100W        | column people: '' is empty
+7,1,0,1,5,39.5N,           | column longitude: '' is empty
 7,1,0,1,5.5,39.5N,100W     | column people: '5.5' is not a whole number
+7,1,0,1,1.000,39.5N,100W   | column people: '1.000' is not a whole number
 7,1,0,1,-5,39.5N,100W      | column people: '-5' is negative
 7,1,-1,1,5,39.5N,100W      | column row: '-1' is negative
 0,1,0,1,5,39.5N,100W       | column area: '0' is not within 1 to 416
@@ -128,6 +134,21 @@ fn wrong_lines_are_named() {
 }
 
 #[test]
+fn a_column_does_not_mix_degrees_and_whole_numbers() {
+    // 0 is the same in both, and what is no coordinate tells of no unit.
+    let text = "7,1,0,0,60,39,0\n7,1,0,1,5,0,x.5\n7,1,0,2,5,39.5,-0100\n7,1,0,3,5,14220000,100W\n";
+    let mixed = |line, column, word, degrees_line| {
+        let rule = format!("a whole number, hundredths of an arc second, where line {degrees_line} has degrees");
+        format!("it.csv:{line}: column {column}: '{word}' is {rule}\n")
+    };
+    let said = build_wrong("mixed", format!("{HEADER}\n{text}").as_bytes());
+    let (_, said) = said.split_once('\n').expect("the word that is no coordinate is named first");
+    let expected =
+        [mixed(2, "latitude", "39", 4), mixed(5, "latitude", "14220000", 4), mixed(4, "longitude", "-0100", 5)];
+    assert_eq!(said, expected.concat());
+}
+
+#[test]
 fn a_decimal_comma_is_refused_with_the_rule() {
     let text = HEADER.replace(',', ";") + "\n7;1;0;0;60;39,5;100W\n";
     let rule = "a whole number is hundredths of an arc second, a number with a dot or a letter is degrees";
@@ -140,7 +161,7 @@ fn all_mistakes_are_named() {
     let lines = "7,1,0,0,60,39.5N,100W\nx,1,0,1,-5,39.5N,100W\n7,2,0,0,5,39.5N,100W\n8,1,0,1,5,39.5N\n";
     let said = "it.csv:3: column area: 'x' is not written in digits\n\
                 it.csv:3: column people: '-5' is negative\n\
-                it.csv:5: 6 fields where 7 are due\n\
+                it.csv:5: 6 fields where 7 are due; the last is '39.5N'\n\
                 it.csv:4: column weight: '2', but area 7 has weight 1 on line 2\n\
                 it.csv:4: columns row, column: row 0, column 0 of area 7 is on line 2 already\n";
     assert_eq!(build_wrong("all", format!("{HEADER}\n{lines}").as_bytes()), said);
@@ -162,9 +183,9 @@ const WRONG_FILES: [(&[u8], &str); 6] = [
         "it.csv:2: the header 'area weight row column people lat lon' lacks latitude, longitude\n",
     ),
     (b"area,weight,row,column,people,latitude,longitude,Row\n", "it.csv:1: the header has column row twice\n"),
-    (b"\"area\n", "it.csv:1: a field starts with a quote and none ends it\n"),
+    (b"\"area\n", "it.csv:1: '\"area' starts with a quote and none ends it\n"),
     (b"area,weight,row,column,people,latitude,longitude\n# none\n", "it.csv: has no cells\n"),
-    (b"area,weight,row,column,people,latitude,longitude\n7\xff", "it.csv:2: is not UTF-8 text\n"),
+    (b"area,weight,row,column,people,latitude,longitude\n7,caf\xe9\r\n", "it.csv:2: 'caf\u{fffd}' is not UTF-8 text\n"),
 ];
 
 #[test]

@@ -2,6 +2,7 @@
 
 mod common;
 
+use codwalet::{Gets, Kind, Weighted};
 use common::{CSV, codwalet, empty_folder, files_in, folder_with};
 use std::path::{Path, PathBuf};
 
@@ -86,6 +87,15 @@ fn names_of_json_fields_are_explained() {
     }
     for name in ["line", "note", "reason", "byte", "accepted", "cells"] {
         assert!(names(&json).any(|other| other == name), "no object has `{name}`");
+    }
+}
+
+#[test]
+fn values_of_json_fields_are_explained() {
+    let kinds = [Kind::Exact, Kind::RoundedUp, Kind::OnePart].map(Kind::words);
+    let gets = [Gets::Nothing, Gets::Whole, Gets::RoundedUp, Gets::Share(Weighted(1))].map(Gets::words);
+    for words in kinds.iter().chain(&gets) {
+        assert!(PLANS.contains(&format!("`{words}`")), "docs/PLANS.md lacks `{words}`");
     }
 }
 

@@ -64,13 +64,30 @@ fn one_file_has_one_identity() {
     fs::create_dir(folder.join("sub")).expect("a folder is made");
     symlink("it", folder.join("link")).expect("a link is made");
     symlink("missing", folder.join("dangling")).expect("a link is made");
+    symlink("loop", folder.join("loop")).expect("a link is made");
     let identity = |name: &str| Identity::of(&folder.join(name));
     for (one, same) in
         [("it", "./it"), ("it", "sub/../it"), ("it", "link"), ("missing", "sub/../missing"), ("missing", "dangling")]
     {
         assert_eq!(identity(one), identity(same), "{one} and {same}");
     }
-    for (one, other) in [("it", "other"), ("it", "missing"), ("missing", "sub/missing"), ("none/it", "none/other")] {
+    for (one, other) in
+        [("it", "other"), ("it", "missing"), ("missing", "sub/missing"), ("none/it", "none/other"), ("loop", "it")]
+    {
         assert_ne!(identity(one), identity(other), "{one} and {other}");
     }
+}
+
+#[test]
+fn as_many_links_are_followed_as_the_system_follows() {
+    let folder = empty_folder("files-chain");
+    symlink("missing", folder.join("1")).expect("a link is made");
+    for number in 2..=41 {
+        symlink((number - 1).to_string(), folder.join(number.to_string())).expect("a link is made");
+    }
+    let identity = |name: &str| Identity::of(&folder.join(name));
+    assert_eq!((identity("40") == identity("missing"), identity("41") == identity("missing")), (true, false));
+    assert!(write(&folder.join("41"), b"text").is_err());
+    write(&folder.join("40"), b"text").expect("the file is written");
+    assert_eq!(fs::read(folder.join("missing")).expect("the file is read"), b"text");
 }

@@ -30,16 +30,18 @@ grant 5 area 7 8               | '8' is a word too many
 grant 5 area 7#8               | NUMBER '7#8' is not an unsigned whole number
 grant x area 7                 | CALLSIGN 'x' is not an unsigned whole number
 grant -5 area 7                | CALLSIGN '-5' is not an unsigned whole number
-grant 4294967296 area 7        | CALLSIGN '4294967296' is out of range
-grant 5 area 65536             | NUMBER '65536' is out of range
+grant 4294967296 area 7        | CALLSIGN '4294967296' is not within 0 to 4294967295
+grant 5 area 65536             | NUMBER '65536' is not within 0 to 65535
 grant 5 box 39N 40N 101W       | '101W' must be followed by EAST
 grant 5 box 39E 40N 101W 100W  | SOUTH '39E' is a longitude where a latitude is due
 grant 5 box 39N 40N 101W 100S  | EAST '100S' is a latitude where a longitude is due
 cancel                         | 'cancel' must be followed by CALLSIGN
-propose 4294967296             | DRAW '4294967296' is out of range
+propose 4294967296             | DRAW '4294967296' is not within 0 to 4294967295
 footprint 0 png x.png          | 'png' stands where svg or nothing is due
 footprint 0 svg                | 'svg' must be followed by FILE
 footprint 0 svg -              | FILE '-' is standard output, where the answers go
+footprint 0 svg /dev/stdout    | FILE '/dev/stdout' is standard output, where the answers go
+footprint 0 svg \"\"             | FILE '' is no name of a file
 map none.map                   | map 'none.map' cannot be read: No such file or directory (os error 2)
 map                            | 'map' must be followed by FILE
 map \"good.csv                  | '\"good.csv' starts with a quote and none ends it
@@ -70,7 +72,7 @@ fn the_rule_for_coordinates_is_in_the_message() {
         assert_named("coordinate", &line, &format!("SOUTH '{word}' is no coordinate: {rule}"));
     }
     let line = "grant 5 box 0 1 2 2147483648";
-    assert_named("coordinate", line, &format!("EAST '2147483648' is out of range: {rule}"));
+    assert_named("coordinate", line, &format!("EAST '2147483648' is not within -2147483648 to 2147483647: {rule}"));
 }
 
 #[test]

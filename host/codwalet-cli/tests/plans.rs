@@ -60,7 +60,7 @@ fn names_of_files_need_not_be_text() {
 }
 
 /// Grants on a map with area 7 about 39.5N 100W, and the notes on them.
-const NOTED: [(&str, &str); 6] = [
+const NOTED: [(&str, &str); 8] = [
     ("area 8", "the map lacks area 8"),
     (
         "box 39 40 -101 -100",
@@ -71,12 +71,17 @@ const NOTED: [(&str, &str); 6] = [
         "the box covers no cell of the map; whole numbers are hundredths of an arc second: 1 is 0.01 arc seconds",
     ),
     ("box 39 181 -101 -100", "the box covers no cell of the map"),
-    ("box 39 40.0 -101 -100", "the box covers no cell of the map"),
+    (
+        "box 39 40.0 -101 0",
+        "the box covers no cell of the map; 39 is a whole number among degrees: it is 0.39 arc seconds",
+    ),
+    ("box 39.4 39.6 -100.3 -100", "-100 is a whole number among degrees: it is -1.00 arc seconds"),
+    ("box 39N 14400000 101W 0", "14400000 is a whole number among degrees: it is 144000.00 arc seconds"),
     ("box 41N 42N 101W 99W", "the box covers no cell of the map"),
 ];
 
 #[test]
-fn licences_that_cover_nothing_are_noted() {
+fn licences_that_may_be_meant_otherwise_are_noted() {
     for (ground, note) in NOTED {
         let folder = folder("noted", &format!("map good.csv\ngrant 1 {ground}\n"));
         let ended = codwalet(&folder, &["run", "it.plan"]);
@@ -92,11 +97,11 @@ fn licences_that_cover_nothing_are_noted() {
     }
 }
 
-/// Plans without a note: the licence covers a cell, is refused, or no map before it is accepted.
+/// Plans without a note: the licence covers a cell, is refused, or the map before it is.
 const NOT_NOTED: [&str; 6] = [
     "map good.csv\ngrant 1 area 7\ngrant 2 box 39.5 39.6 -100.0 -99.99\n",
     "map good.csv\ngrant 0 area 8\n",
-    "grant 1 area 8\nmap good.csv\n",
+    "map good.csv\ngrant 1 box 0 39.6N 100.3W 0\n",
     "map bad.map\ngrant 1 area 8\n",
     "map good.csv\nmap bad.map\ngrant 1 area 8\n",
     "map good.csv\nmap other.csv\ngrant 1 area 8\n",
@@ -111,6 +116,25 @@ fn licences_without_a_note() {
         let ended = codwalet(&folder, &["run", "it.plan", "--strict"]);
         assert_eq!((ended.said(), ended.out.contains("note")), ((Some(0), ""), false), "{plan}");
     }
+}
+
+#[test]
+fn mixed_units_are_noted_whatever_comes_of_the_licence() {
+    let note = "note: 40 is a whole number among degrees: it is 0.40 arc seconds";
+    let refused = "refused, 6: the call sign is 0, or the ground is ill-formed (south 14220000 is not below north 40, \
+                   in hundredths of an arc second)";
+    let ended = run("mixed", "grant 1 box 39.5 40 -101.0 -100.0\ngrant 2 box 39.5S 40 101W 100W\n");
+    assert_eq!(answer(&ended, 1), format!("grant 1 box 39.5 40 -101.0 -100.0  {refused}; {note}"));
+    assert_eq!(answer(&ended, 2), format!("grant 2 box 39.5S 40 101W 100W     granted; 1 licence in force; {note}"));
+}
+
+#[test]
+fn licences_above_the_first_map_are_mistakes_where_it_is_strict() {
+    let folder = folder("above", "grant 1 area 8\nmap good.csv\n");
+    let ended = codwalet(&folder, &["run", "it.plan"]);
+    assert_eq!((ended.said(), ended.out.contains("note")), ((Some(0), ""), false));
+    let said = "it.plan:1: '8': no map above it to hold it against\n";
+    assert_eq!(codwalet(&folder, &["run", "it.plan", "--strict"]).said(), (Some(2), said));
 }
 
 #[test]
@@ -169,6 +193,25 @@ fn a_plan_on_standard_input_is_not_drawn_over() {
     assert_eq!(ended.said(), (Some(2), "standard input:3: FILE 'it.plan' is the plan itself\n"));
 }
 
+/// Runs a plan with a picture while standard output goes to a file.
+fn run_into(file: &str, plan: &str) -> Ended {
+    let folder = folder("over-output", plan);
+    let output = File::create(folder.join(file)).expect("the file is made");
+    ended(command(&folder, &["run", "it.plan"]).stdout(output).output().expect("the command line runs"))
+}
+
+#[test]
+fn the_answers_are_not_drawn_over() {
+    let plan = "map good.csv\ngrant 1 area 7\nfootprint 0 svg ";
+    for (output, picture) in [("it.svg", "it.svg"), ("it.svg", "./it.svg"), ("it.txt", "/dev/stdout")] {
+        let said = format!("it.plan:3: FILE '{picture}' is standard output, where the answers go\n");
+        assert_eq!(run_into(output, &format!("{plan}{picture}\n")).said(), (Some(2), said.as_str()));
+    }
+    for (output, picture) in [("it.txt", "it.svg"), ("/dev/null", "/dev/null")] {
+        assert_eq!(run_into(output, &format!("{plan}{picture}\n")).said(), (Some(0), ""), "{picture}");
+    }
+}
+
 #[test]
 fn maps_of_a_plan_on_standard_input_are_found_from_the_current_directory() {
     let folder = folder("input", "");
@@ -204,13 +247,46 @@ fn a_picture_that_cannot_be_written_stops_nothing() {
 
 #[test]
 fn columns_that_are_not_used_are_noted() {
-    let folder = folder("unused", "map named.csv\n");
+    // A map that is named twice has its note once.
+    let folder = folder("unused", "map named.csv\nmap named.csv\n");
     let text = CSV.replace("area,", "county,area,").replace("\n7,", "\nx,7,").replace("longitude\n", "longitude,\n");
     fs::write(folder.join("named.csv"), text.replace("W\n", "W,\n")).expect("the map is written");
-    let said = "named.csv: note: columns 'county', '' are not used\n";
+    // The last column has no name.
+    let said = "named.csv: note: column 'county' is not used\n";
     for words in [&["run", "it.plan"][..], &["check", "named.csv"], &["map", "show", "named.csv"]] {
         assert_eq!(codwalet(&folder, words).said(), (Some(0), said));
     }
+}
+
+#[test]
+fn maps_that_may_be_meant_in_degrees_are_noted() {
+    let note = "named.csv: note: whole numbers are hundredths of an arc second:";
+    let seconds = [
+        ("39", "-100", Some("39 is 0.39 arc seconds")),
+        ("0", "-100", Some("-100 is -1.00 arc seconds")),
+        ("39", "100W", Some("39 is 0.39 arc seconds")),
+        ("0", "0", None),
+        ("0", "-36000000", None),
+        ("39.5N", "100W", None),
+    ];
+    for (latitude, longitude, seconds) in seconds {
+        let folder = folder("like-degrees", "map named.csv\n");
+        let text = CSV.replace("39.5N", latitude).replace("100W", longitude).replace("99.98W", longitude);
+        fs::write(folder.join("named.csv"), text).expect("the map is written");
+        let said = seconds.map_or(String::new(), |seconds| format!("{note} {seconds}\n"));
+        for words in [&["run", "it.plan"][..], &["check", "named.csv"]] {
+            assert_eq!(codwalet(&folder, words).said(), (Some(0), said.as_str()), "{latitude} {longitude}");
+        }
+    }
+}
+
+#[test]
+fn long_calls_move_their_own_answers_alone() {
+    let zeros = "0".repeat(70_000);
+    let ended = run("long", &format!("map good.csv\ncoverage {zeros}7\ncoverage 7\n"));
+    assert_eq!(ended.said(), (Some(0), ""));
+    assert_eq!(answer(&ended, 2), format!("coverage {zeros}7  0 people"));
+    assert_eq!(answer(&ended, 3), format!("{:60}  0 people", "coverage 7"));
 }
 
 #[test]

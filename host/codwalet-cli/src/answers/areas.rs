@@ -43,17 +43,16 @@ fn cell_count(area: &AreaHead) -> u64 {
     area.cells().iter().flatten().count() as u64
 }
 
-/// What bytes are as a map, as a JSON object on one line.
-pub fn map_json(file: &str, bytes: &[u8]) -> String {
+/// What bytes are as a map, as a JSON object on one line; `map` is what the engine says of them.
+pub fn map_json(file: &str, bytes: &[u8], map: &Result<Map, Refusal>) -> String {
     let mut object = Object::new();
     object.text("file", file);
-    let map = Map::new(bytes);
     object.value("accepted", map.is_ok().to_string());
     object.number("bytes", bytes.len() as u64);
     match map {
         Ok(map) => object.value("areas", array(map.areas().map(|area| area_object(&area)))),
         Err(refusal) => {
-            let mut refused = Object::refusal(&refusal);
+            let mut refused = Object::refusal(refusal);
             if let Some(fault) = Map::fault(bytes) {
                 refused.number("byte", fault.byte as u64);
             }

@@ -37,7 +37,7 @@ pub fn json(answer: &Answer) -> String {
 fn call_fields(step: &Step) -> Object {
     let mut object = Object::new();
     object.number("line", step.line as u64);
-    object.text("call", step.call.name());
+    object.text("call", step.call.name().word());
     match &step.call {
         Call::Map { file, .. } => object.text("file", file),
         Call::Grant { licence, .. } => licence_fields(&mut object, licence),

@@ -53,7 +53,7 @@ pub fn quoted(text: &str) -> String {
     for character in text.chars() {
         match character {
             '"' | '\\' => quoted.extend(['\\', character]),
-            '\u{0}'..='\u{1f}' => quoted += &format!("\\u{:04x}", u32::from(character)),
+            control if control.is_control() => quoted += &format!("\\u{:04x}", u32::from(character)),
             _ => quoted.push(character),
         }
     }
@@ -72,6 +72,6 @@ mod tests {
 
     #[test]
     fn texts_are_escaped() {
-        assert_eq!(quoted("a \"b\"\\\n"), "\"a \\\"b\\\"\\\\\\u000a\"");
+        assert_eq!(quoted("a \"b\"\\\n\u{9b}"), "\"a \\\"b\\\"\\\\\\u000a\\u009b\"");
     }
 }

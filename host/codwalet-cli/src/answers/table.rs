@@ -4,14 +4,19 @@ use super::{counted, grouped, size_words, word_for};
 use crate::picture::{Drawing, terminal};
 use crate::plan::run::{Answer, Outcome};
 use crate::plan::{Call, Plan};
+use crate::shown::shown;
 use codwalet::{Blocks, Given, Kind, Part, Proposal};
 
 /// Blanks before the lines below an answer: the width of the first column.
 const INDENT: &str = "      ";
 
+/// The widest that the calls' column can be. A call that is longer moves the answer on its own line.
+const WIDEST: usize = 60;
+
 /// The width of the calls' column.
 pub fn width_of(plan: &Plan) -> usize {
-    plan.steps.iter().map(|step| step.words.chars().count()).max().unwrap_or(0).max("call".len())
+    let widest = plan.steps.iter().map(|step| step.words.chars().count()).max().unwrap_or(0);
+    widest.clamp("call".len(), WIDEST)
 }
 
 /// The table's first line.
@@ -102,7 +107,7 @@ fn footprint_words(drawing: &Drawing, answer: &Answer) -> String {
     let cells = drawing.count(|_| true).cells;
     // Where a picture can't be written, a note says so.
     let written = match &answer.step.call {
-        Call::Footprint(_, Some(file)) if answer.note.is_none() => format!("; drawn in {}", file.display()),
+        Call::Footprint(_, Some(file)) if answer.note.is_none() => format!("; drawn in {}", shown(file)),
         _ => String::new(),
     };
     let (in_it, cells) = (grouped(footprint.cells), counted(cells, "cell", "cells"));

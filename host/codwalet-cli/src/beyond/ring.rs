@@ -7,6 +7,7 @@
 //! Each round goes on from the ring before. A cell of the next ring neighbours that ring, since a cell that neighbours
 //! anything earlier was in an earlier ring.
 
+use super::value_of;
 use codwalet::{Cell, Weighted};
 use std::cmp::Ordering;
 
@@ -50,8 +51,7 @@ impl Start<'_> {
 
     /// V of some places.
     fn value(&self, places: &[usize]) -> u64 {
-        let people: u64 = places.iter().map(|&place| self.people(place)).sum();
-        100 * u64::from(self.weight) * people
+        value_of(self.weight, places.iter().map(|&place| self.people(place)).sum()).0
     }
 
     /// The places with a cell for which something holds.

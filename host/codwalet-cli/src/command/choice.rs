@@ -1,6 +1,7 @@
 //! Which command the words name, and what they give it.
 
 use super::{Ended, help, map, run};
+use crate::shown::shown;
 use std::ffi::{OsStr, OsString};
 use std::io::Write;
 use std::path::{Path, PathBuf};
@@ -25,9 +26,14 @@ static COMMANDS: [Command; 4] = [
     Command { name: "check", page: help::CHECK, operands: &["FILE"], options: &[], act: map::check },
 ];
 
-/// The word that groups commands, and what is due behind it.
+/// The word that groups commands.
 const GROUP: &str = "map";
-const IN_GROUP: &str = "build or show";
+
+/// What is due behind the group's word.
+fn in_group() -> String {
+    let grouped = COMMANDS.iter().filter_map(|command| command.name.strip_prefix(GROUP)?.strip_prefix(' '));
+    grouped.collect::<Vec<_>>().join(" or ")
+}
 
 /// What a command is given: all its operands, and some of its options.
 pub struct Given {
@@ -60,12 +66,13 @@ pub fn choose(words: &[OsString]) -> Result<Choice, String> {
         [] => Err(help::OVERVIEW.to_string()),
         [first, rest @ ..] if is_help(first) => page_of(rest).map(Choice::Page),
         [first, rest @ ..] if first == "--version" || first == "-V" => match rest.first() {
+            Some(word) if is_help(word) => Ok(Choice::Page(help::OVERVIEW)),
             Some(word) => Err(too_many("", word)),
             None => Ok(Choice::Version),
         },
         _ => match named(words)? {
             Named::Command(command, rest) => given(command, rest),
-            Named::Group([]) => Err(wrong(GROUP, format!("{IN_GROUP} is missing"))),
+            Named::Group([]) => Err(wrong(GROUP, format!("{} is missing", in_group()))),
             Named::Group([word, ..]) if is_help(word) => Ok(Choice::Page(help::MAP)),
             Named::Group([word, ..]) => Err(not_in_group(word)),
         },
@@ -87,14 +94,14 @@ fn named(words: &[OsString]) -> Result<Named<'_>, String> {
     }
     match words {
         [group, rest @ ..] if group == GROUP => Ok(Named::Group(rest)),
-        [word, ..] => Err(wrong("", format!("'{}' is not a command", word.display()))),
+        [word, ..] => Err(wrong("", format!("'{}' is not a command", shown(word)))),
         [] => Err(wrong("", "a command is missing".to_string())),
     }
 }
 
-/// The page for a command, by its words.
+/// The page for a command, by its words; the overview, which has `help` too, for none.
 fn page_of(words: &[OsString]) -> Result<&'static str, String> {
-    if words.is_empty() {
+    if words.first().is_none_or(|word| is_help(word)) {
         return Ok(help::OVERVIEW);
     }
     match named(words)? {
@@ -117,7 +124,7 @@ fn given(command: &'static Command, words: &[OsString]) -> Result<Choice, String
         match command.options.iter().find(|option| word == **option) {
             Some(option) => given.options.push(option),
             None if is_option => {
-                return Err(wrong(command.name, format!("'{}' is not an option of it", word.display())));
+                return Err(wrong(command.name, format!("'{}' is not an option of it", shown(word))));
             }
             None if given.operands.len() == command.operands.len() => return Err(too_many(command.name, word)),
             None => given.operands.push(word.into()),
@@ -134,11 +141,11 @@ fn is_help(word: &OsStr) -> bool {
 }
 
 fn too_many(name: &str, word: &OsStr) -> String {
-    wrong(name, format!("'{}' is a word too many", word.display()))
+    wrong(name, format!("'{}' is a word too many", shown(word)))
 }
 
 fn not_in_group(word: &OsStr) -> String {
-    wrong(GROUP, format!("'{}' is not {IN_GROUP}", word.display()))
+    wrong(GROUP, format!("'{}' is not {}", shown(word), in_group()))
 }
 
 /// What is wrong with the words of a command, and where help is. Without a name it is no command in particular.
@@ -158,6 +165,8 @@ mod tests {
             for word in [command.operands, command.options].concat() {
                 assert!(command.page.contains(word), "the page of {} lacks {word}", command.name);
             }
+            let (_, statuses) = command.page.split_once("Exit status: 0 ").expect("the page has the statuses");
+            assert!(statuses.contains(", 1 ") && statuses.contains("2 a mistake"), "{statuses}");
         }
         for page in COMMANDS.iter().map(|command| command.page).chain([help::OVERVIEW, help::MAP]) {
             let fits = page.lines().count() <= 24 && page.lines().all(|line| line.chars().count() <= 80);

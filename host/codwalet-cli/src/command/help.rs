@@ -32,7 +32,7 @@ codwalet run PLAN [--json] [--strict]
 
 Runs a plan, which is read and checked whole before. - is standard input.
   --json    one JSON object for each line of the plan
-  --strict  a licence that covers nothing on its map is a mistake
+  --strict  a licence with a note, or above the first map, is a mistake
 
 A plan has a call on each line; # at the start of a word starts a comment, and
 \"double quotes\" hold a word with blanks, in which \\\" is a quote.
@@ -85,7 +85,8 @@ Lists the areas of a map, or says why it is refused and at which byte the field
 at fault starts. FILE has a map's bytes or CSV text; - is standard input.
   --json  one JSON object
 
-Exit status: 0 the map is accepted, 2 a mistake, 3 it is refused.
+Exit status: 0 the map is accepted, 1 the answer could not be written,
+2 a mistake, 3 the map is refused.
 Example: codwalet map show examples/two-areas.csv
 ";
 
@@ -96,6 +97,7 @@ codwalet check FILE
 Says in a line whether a map is accepted. FILE has a map's bytes or CSV text;
 - is standard input.
 
-Exit status: 0 the map is accepted, 2 a mistake, 3 it is refused.
+Exit status: 0 the map is accepted, 1 the answer could not be written,
+2 a mistake, 3 the map is refused.
 Example: codwalet check examples/two-areas.csv
 ";

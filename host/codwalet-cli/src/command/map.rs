@@ -6,6 +6,7 @@ use crate::answers::{areas_lines, grouped, map_json, refused_words, size_words};
 use crate::csv;
 use crate::files::{self, Identity};
 use crate::maps::{self, MapFile, NoMap};
+use crate::shown::shown;
 use codwalet::Map;
 use std::io::Write;
 use std::path::Path;
@@ -13,7 +14,7 @@ use std::path::Path;
 /// Builds a map from CSV text.
 pub fn build(given: &Given, out: &mut dyn Write) -> Ended {
     let (cells, target) = (given.operand(0), given.operand(1));
-    let name = target.display();
+    let name = shown(target);
     if csv::has_csv_name(target) {
         return Err(misnamed(&format!("'{name}' would be taken for CSV text")));
     }
@@ -39,7 +40,7 @@ pub fn show(given: &Given, out: &mut dyn Write) -> Ended {
     let bytes = found(file, maps::read(file))?;
     let map = Map::new(&bytes);
     let lines = match &map {
-        _ if given.has("--json") => vec![map_json(&file.to_string_lossy(), &bytes)],
+        _ if given.has("--json") => vec![map_json(&file.to_string_lossy(), &bytes, &map)],
         Ok(map) => areas_lines(map),
         Err(refusal) => vec![refused_words(&bytes, refusal)],
     };
@@ -59,11 +60,11 @@ pub fn check(given: &Given, out: &mut dyn Write) -> Ended {
     Ok(status)
 }
 
-/// The bytes of a map that was read; a note on it is told.
+/// The bytes of a map that was read; the notes on it are told.
 fn found(file: &Path, read: Result<MapFile, NoMap>) -> Result<Vec<u8>, Failure> {
     match read {
-        Ok(MapFile { bytes, note }) => {
-            note.iter().for_each(|note| tell(note));
+        Ok(MapFile { bytes, notes }) => {
+            notes.iter().for_each(|note| tell(note));
             Ok(bytes)
         }
         Err(NoMap::Csv(mistakes)) => Err(Failure::Mistake(mistakes.to_string())),

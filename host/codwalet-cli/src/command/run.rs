@@ -8,6 +8,7 @@ use crate::mistakes::listed;
 use crate::picture::svg;
 use crate::plan::run::{Answer, Outcome, answers};
 use crate::plan::{self, Call, Plan};
+use crate::shown::shown;
 use std::io::Write;
 
 /// Runs a plan. A picture that can't be written is named, and the plan goes on.
@@ -37,7 +38,7 @@ fn undrawn(plan: &Plan, answer: &Answer) -> Option<String> {
         return None;
     };
     let error = files::write(file, svg(drawing).as_bytes()).err()?;
-    let why = format!("'{}' cannot be written: {error}", file.display());
+    let why = format!("'{}' cannot be written: {error}", shown(file));
     tell(&format!("{}:{}: {why}", plan.file, answer.step.line));
     Some(why)
 }

@@ -2,6 +2,8 @@
 
 use super::records::{Record, Records, is_passed_over};
 use super::{Column, Found, Wrong};
+use crate::answers::word_for;
+use crate::shown::start_of;
 
 /// What may be between fields.
 const SEPARATORS: [char; 3] = [',', ';', '\t'];
@@ -11,8 +13,8 @@ const SEPARATORS: [char; 3] = [',', ';', '\t'];
 pub struct Header {
     /// How many fields each line has.
     pub width: usize,
-    /// The columns that a map has no use for.
-    pub unused: Vec<String>,
+    /// The columns that a map has no use for; those without a name are not among them.
+    unused: Vec<String>,
     /// The places of the columns, in the order of `Column::ALL`.
     places: Vec<usize>,
 }
@@ -21,6 +23,19 @@ impl Header {
     /// The place of a column among a line's fields.
     pub fn place(&self, column: Column) -> usize {
         self.places[column as usize]
+    }
+
+    /// The column at a place, if a map has a use for it.
+    pub fn column_at(&self, place: usize) -> Option<Column> {
+        Column::ALL.into_iter().find(|&column| self.place(column) == place)
+    }
+
+    /// The note on columns that are not used.
+    pub fn unused_note(&self) -> Option<String> {
+        let names: Vec<String> = self.unused.iter().map(|name| format!("'{}'", start_of(name))).collect();
+        let count = names.len() as u64;
+        let (noun, verb) = (word_for(count, "column", "columns"), word_for(count, "is", "are"));
+        (count > 0).then(|| format!("{noun} {} {verb} not used", names.join(", ")))
     }
 
     /// The header in some names, or all that is wrong with it.
@@ -37,7 +52,8 @@ impl Header {
         if !wrong.is_empty() {
             return Err(wrong);
         }
-        let unused = names.iter().filter(|name| column_named(name).is_none()).map(ToString::to_string).collect();
+        let is_unused = |name: &str| !name.is_empty() && column_named(name).is_none();
+        let unused = names.iter().filter(|name| is_unused(name)).map(ToString::to_string).collect();
         let places = Column::ALL.into_iter().flat_map(places_of).collect();
         Ok(Header { width: names.len(), unused, places })
     }
@@ -47,7 +63,7 @@ impl Header {
 pub fn read(text: &str) -> Result<(Header, Records<'_>), Vec<Found>> {
     let mut records = Records::new(text, separator_of(text));
     let (line, names) = records.next().unwrap_or((1, Ok(Vec::new())));
-    let header = names.map_err(|wrong| vec![wrong]).and_then(|names| Header::new(&names));
+    let header = names.map_err(|misquoted| vec![misquoted.in_column(None)]).and_then(|names| Header::new(&names));
     match header {
         Ok(header) => Ok((header, records)),
         Err(wrong) => Err(wrong.into_iter().map(|wrong| (line, wrong)).collect()),
@@ -78,7 +94,8 @@ pub fn is_header_first(bytes: &[u8]) -> bool {
     loop {
         let line = lines.next().filter(|line| is_text(line)).map(std::str::from_utf8);
         match line {
-            Some(Ok(line)) if is_passed_over(line) => continue,
+            // Above the header, tabs may be blanks before a comment.
+            Some(Ok(line)) if is_passed_over(line, ',') => continue,
             Some(Ok(line)) => return columns_named(line, separator_of(line)) > 0,
             _ => return false,
         }
@@ -91,7 +108,7 @@ mod tests {
 
     #[test]
     fn headers_are_found_below_comments() {
-        let headers = ["area;x", "\u{feff}# by hand\n\r\n Weight ,name\r\n7", "\"people\"\tb", "row"];
+        let headers = ["area;x", "\u{feff}# by hand\n\r\n\t # too\n Weight ,name\r\n7", "\"people\"\tb", "row"];
         for text in headers {
             assert!(is_header_first(text.as_bytes()), "{text:?}");
         }

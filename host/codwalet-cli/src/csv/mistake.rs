@@ -3,6 +3,7 @@
 use crate::answers::counted;
 use crate::mistakes::listed;
 use crate::plan::coordinate::{Axis, Unreadable};
+use crate::shown::start_of;
 use codwalet::{Refusal, grouped, limits};
 use std::fmt;
 use std::ops::RangeInclusive;
@@ -92,17 +93,23 @@ pub type Found = (usize, Wrong);
 #[derive(Clone, Debug, PartialEq, Eq)]
 #[non_exhaustive]
 pub enum Wrong {
-    NotText,
+    /// A word is not UTF-8; what is none of it is replaced.
+    NotText(String),
     HeaderLacks {
         header: String,
         lacking: Vec<Column>,
     },
     ColumnTwice(Column),
-    OpenQuote,
-    AfterQuote,
+    Quote {
+        /// None if a map has no use for the column, and in the header.
+        column: Option<Column>,
+        word: String,
+        why: QuoteWrong,
+    },
     FieldCount {
         count: usize,
         due: usize,
+        last: String,
     },
     Field {
         column: Column,
@@ -133,6 +140,16 @@ pub enum Wrong {
     Refused(Refusal),
 }
 
+/// What is wrong with a quote.
+#[derive(Clone, Copy, Debug, PartialEq, Eq)]
+#[non_exhaustive]
+pub enum QuoteWrong {
+    /// None ends the field that one starts.
+    Open,
+    /// The field goes on behind it.
+    NotAtEnd,
+}
+
 /// What is wrong with a field.
 #[derive(Clone, Copy, Debug, PartialEq, Eq)]
 #[non_exhaustive]
@@ -143,6 +160,10 @@ pub enum FieldWrong {
     NotWhole,
     NotACoordinate(Unreadable),
     OutOfLimits,
+    /// The column has degrees, first on this line.
+    WholeAmongDegrees {
+        degrees_line: usize,
+    },
 }
 
 impl fmt::Display for CsvMistakes {
@@ -168,16 +189,16 @@ impl std::error::Error for CsvMistake {}
 impl fmt::Display for Wrong {
     fn fmt(&self, out: &mut fmt::Formatter) -> fmt::Result {
         match self {
-            Wrong::NotText => write!(out, "is not UTF-8 text"),
+            Wrong::NotText(word) => write!(out, "'{}' is not UTF-8 text", start_of(word)),
             Wrong::HeaderLacks { header, lacking } => {
                 let names: Vec<&str> = lacking.iter().map(|column| column.name()).collect();
-                write!(out, "the header '{header}' lacks {}", names.join(", "))
+                write!(out, "the header '{}' lacks {}", start_of(header), names.join(", "))
             }
             Wrong::ColumnTwice(column) => write!(out, "the header has column {} twice", column.name()),
-            Wrong::OpenQuote => write!(out, "a field starts with a quote and none ends it"),
-            Wrong::AfterQuote => write!(out, "a field goes on behind its closing quote"),
-            Wrong::FieldCount { count, due } => {
-                write!(out, "{} where {due} are due", counted(*count as u64, "field", "fields"))
+            Wrong::Quote { column, word, why } => write!(out, "{}{why}", in_column(*column, word)),
+            Wrong::FieldCount { count, due, last } => {
+                let count = counted(*count as u64, "field", "fields");
+                write!(out, "{count} where {due} are due; the last is '{}'", start_of(last))
             }
             Wrong::Field { column, word, why } => write_field(out, *column, word, *why),
             Wrong::OtherWeight { weight, area, earlier, earlier_line } => {
@@ -201,8 +222,23 @@ impl fmt::Display for Wrong {
     }
 }
 
+impl fmt::Display for QuoteWrong {
+    fn fmt(&self, out: &mut fmt::Formatter) -> fmt::Result {
+        match self {
+            QuoteWrong::Open => write!(out, "starts with a quote and none ends it"),
+            QuoteWrong::NotAtEnd => write!(out, "goes on behind its closing quote"),
+        }
+    }
+}
+
+/// A word, and its column if that is known, before what is wrong with it.
+fn in_column(column: Option<Column>, word: &str) -> String {
+    let column = column.map_or(String::new(), |column| format!("column {}: ", column.name()));
+    format!("{column}'{}' ", start_of(word))
+}
+
 fn write_field(out: &mut fmt::Formatter, column: Column, word: &str, why: FieldWrong) -> fmt::Result {
-    write!(out, "column {}: '{word}' ", column.name())?;
+    write!(out, "{}", in_column(Some(column), word))?;
     match why {
         FieldWrong::Empty => write!(out, "is empty"),
         FieldWrong::NotDigits => write!(out, "is not written in digits"),
@@ -213,6 +249,9 @@ fn write_field(out: &mut fmt::Formatter, column: Column, word: &str, why: FieldW
             let limits = column.limits();
             let unit = if column.axis().is_some() { " hundredths of an arc second" } else { "" };
             write!(out, "is not within {} to {}{unit}", limits.start(), limits.end())
+        }
+        FieldWrong::WholeAmongDegrees { degrees_line } => {
+            write!(out, "is a whole number, hundredths of an arc second, where line {degrees_line} has degrees")
         }
     }
 }

@@ -1,6 +1,6 @@
 //! The lines of a CSV text, cut into fields.
 
-use super::Wrong;
+use super::{Column, QuoteWrong, Wrong};
 use std::borrow::Cow;
 
 /// The fields of a line, without the blanks around them and their quotes.
@@ -14,6 +14,23 @@ pub struct Records<'a> {
     /// The line that `rest` starts on.
     line: usize,
     separator: char,
+}
+
+/// A field with a wrong quote.
+#[derive(Clone, Debug, PartialEq, Eq)]
+pub struct Misquoted {
+    /// The field's place in its line.
+    pub place: usize,
+    /// The field, as it is written.
+    word: String,
+    why: QuoteWrong,
+}
+
+impl Misquoted {
+    /// The mistake, in a column if that is known.
+    pub fn in_column(self, column: Option<Column>) -> Wrong {
+        Wrong::Quote { column, word: self.word, why: self.why }
+    }
 }
 
 /// What stands behind a field.
@@ -54,31 +71,46 @@ impl<'a> Records<'a> {
         self.rest.len() - self.rest.trim_start_matches(is_blank).len()
     }
 
-    fn record(&mut self) -> Result<Record<'a>, Wrong> {
+    fn record(&mut self) -> Result<Record<'a>, Misquoted> {
         let mut fields = Vec::new();
         loop {
-            fields.push(self.field()?);
-            if self.end()? == End::Line {
+            self.pass(self.blanks());
+            let start = self.rest;
+            let misquoted = |why, word: &str| Misquoted { place: fields.len(), word: word.to_string(), why };
+            let field = self.field().map_err(|why| misquoted(why, self.written_from(start)))?;
+            let end = self.end().map_err(|why| misquoted(why, self.written_from(start)))?;
+            fields.push(field);
+            if end == End::Line {
                 return Ok(fields);
             }
         }
     }
 
-    fn field(&mut self) -> Result<Cow<'a, str>, Wrong> {
-        self.pass(self.blanks());
+    /// The length of what is left of a field without quotes.
+    fn field_length(&self) -> usize {
+        self.rest.find([self.separator, '\n']).unwrap_or(self.rest.len())
+    }
+
+    /// What is written from an earlier place up to the end of the field.
+    fn written_from(&self, start: &'a str) -> &'a str {
+        let passed = start.len() - self.rest.len();
+        start[..passed + self.field_length()].trim_end()
+    }
+
+    fn field(&mut self) -> Result<Cow<'a, str>, QuoteWrong> {
         if self.rest.starts_with('"') {
             return self.quoted();
         }
-        let length = self.rest.find([self.separator, '\n']).unwrap_or(self.rest.len());
+        let length = self.field_length();
         Ok(Cow::Borrowed(self.pass(length).trim_end()))
     }
 
     /// A field in quotes, where two quotes stand for one.
-    fn quoted(&mut self) -> Result<Cow<'a, str>, Wrong> {
+    fn quoted(&mut self) -> Result<Cow<'a, str>, QuoteWrong> {
         let mut field = String::new();
         let mut from = 1;
         loop {
-            let length = self.rest[from..].find('"').ok_or(Wrong::OpenQuote)?;
+            let length = self.rest[from..].find('"').ok_or(QuoteWrong::Open)?;
             field += &self.rest[from..from + length];
             from += length + 1;
             if !self.rest[from..].starts_with('"') {
@@ -91,7 +123,7 @@ impl<'a> Records<'a> {
     }
 
     /// Passes what ends a field.
-    fn end(&mut self) -> Result<End, Wrong> {
+    fn end(&mut self) -> Result<End, QuoteWrong> {
         self.pass(self.blanks());
         match self.rest.chars().next() {
             None => Ok(End::Line),
@@ -103,18 +135,18 @@ impl<'a> Records<'a> {
                 self.pass(character.len_utf8());
                 Ok(End::Separator)
             }
-            Some(_) => Err(Wrong::AfterQuote),
+            Some(_) => Err(QuoteWrong::NotAtEnd),
         }
     }
 }
 
 impl<'a> Iterator for Records<'a> {
-    type Item = (usize, Result<Record<'a>, Wrong>);
+    type Item = (usize, Result<Record<'a>, Misquoted>);
 
     fn next(&mut self) -> Option<Self::Item> {
         while !self.rest.is_empty() {
             let line = self.line;
-            if is_passed_over(self.this_line()) {
+            if is_passed_over(self.this_line(), self.separator) {
                 self.pass_line();
                 continue;
             }
@@ -122,9 +154,9 @@ impl<'a> Iterator for Records<'a> {
                 // Spreadsheets have lines of separators alone below the last one.
                 Ok(fields) if fields.iter().all(|field| field.is_empty()) => continue,
                 Ok(fields) => return Some((line, Ok(fields))),
-                Err(wrong) => {
+                Err(misquoted) => {
                     self.pass_line();
-                    return Some((line, Err(wrong)));
+                    return Some((line, Err(misquoted)));
                 }
             }
         }
@@ -132,9 +164,10 @@ impl<'a> Iterator for Records<'a> {
     }
 }
 
-/// Whether a line is blank or a comment.
-pub fn is_passed_over(line: &str) -> bool {
-    line.starts_with('#') || line.trim().is_empty()
+/// Whether a line is blank or a comment. A separator is no blank before a comment: it ends an empty field.
+pub fn is_passed_over(line: &str, separator: char) -> bool {
+    let is_blank = |character: char| character.is_whitespace() && character != separator;
+    line.trim_start_matches(is_blank).starts_with('#') || line.trim().is_empty()
 }
 
 #[cfg(test)]
@@ -144,9 +177,8 @@ mod tests {
     /// The records of a text, `|` between fields.
     fn shown(text: &str, separator: char) -> Vec<(usize, String)> {
         let shown = |fields: Record| fields.join("|");
-        let line = |(line, fields): (usize, Result<Record, Wrong>)| {
-            (line, fields.map_or_else(|wrong| format!("{wrong:?}"), shown))
-        };
+        let misquoted = |Misquoted { place, word, why }: Misquoted| format!("{place} {word} {why:?}");
+        let line = |(line, fields): (usize, Result<Record, Misquoted>)| (line, fields.map_or_else(misquoted, shown));
         Records::new(text, separator).map(line).collect()
     }
 
@@ -157,6 +189,8 @@ mod tests {
     #[test]
     fn fields_are_cut_at_separators() {
         assert_eq!(shown("a, b ,\n\r\n# x,y\n ,, \nc,d\r\n", ','), lines(&[(1, "a|b|"), (5, "c|d")]));
+        assert_eq!(shown("a\n \t# x,y\n,#b", ','), lines(&[(1, "a"), (3, "|#b")]));
+        assert_eq!(shown(" # x\n\t#b\tc", '\t'), lines(&[(2, "|#b|c")]));
         assert_eq!(shown("\u{feff}1;2,5", ';'), lines(&[(1, "1|2,5")]));
         assert_eq!(shown("1\t\t 3", '\t'), lines(&[(1, "1||3")]));
     }
@@ -170,7 +204,7 @@ mod tests {
 
     #[test]
     fn reading_goes_on_behind_a_wrong_quote() {
-        assert_eq!(shown("a\n\"b\"c,d\ne\n", ','), lines(&[(1, "a"), (2, "AfterQuote"), (3, "e")]));
-        assert_eq!(shown("a\n1,\"b\nc\n", ','), lines(&[(1, "a"), (2, "OpenQuote"), (3, "c")]));
+        assert_eq!(shown("a\n \"b\"c ,d\ne\n", ','), lines(&[(1, "a"), (2, "0 \"b\"c NotAtEnd"), (3, "e")]));
+        assert_eq!(shown("a\n1,\"b;2\r\nc\n", ','), lines(&[(1, "a"), (2, "1 \"b;2 Open"), (3, "c")]));
     }
 }

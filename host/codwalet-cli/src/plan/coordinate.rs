@@ -47,7 +47,7 @@ impl fmt::Display for Unreadable {
             Unreadable::NotACoordinate => write!(out, "is no coordinate: {RULE}"),
             Unreadable::WrongLetter(Axis::Latitude) => write!(out, "is a longitude where a latitude is due"),
             Unreadable::WrongLetter(Axis::Longitude) => write!(out, "is a latitude where a longitude is due"),
-            Unreadable::TooLarge => write!(out, "is out of range: {RULE}"),
+            Unreadable::TooLarge => write!(out, "is not within {} to {}: {RULE}", i32::MIN, i32::MAX),
         }
     }
 }
@@ -75,6 +75,23 @@ pub fn read(word: &str, axis: Axis) -> Result<i32, Unreadable> {
 /// Whether a word is a whole number, which is not taken for degrees.
 pub fn is_whole(word: &str) -> bool {
     is_digits(word.strip_prefix('-').unwrap_or(word))
+}
+
+/// One of some whole numbers, if all may be meant for degrees; 0 is the same as degrees.
+pub fn like_degrees(mut numbers: impl Iterator<Item = i32> + Clone) -> Option<i32> {
+    let all_small = numbers.clone().all(|number| (-180..=180).contains(&number));
+    numbers.find(|&number| all_small && number != 0)
+}
+
+/// What whole numbers are, for those who may have meant degrees.
+pub fn not_degrees(number: i32) -> String {
+    format!("whole numbers are hundredths of an arc second: {number} is {}", arc_seconds(number))
+}
+
+/// A whole number in arc seconds.
+pub fn arc_seconds(number: i32) -> String {
+    let (sign, size) = (if number < 0 { "-" } else { "" }, number.unsigned_abs());
+    format!("{sign}{}.{:02} arc seconds", size / 100, size % 100)
 }
 
 /// A number without sign or letter: a dot makes it degrees.

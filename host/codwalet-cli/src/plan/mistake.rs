@@ -1,7 +1,8 @@
 //! What can be wrong with a plan.
 
-use super::Note;
+use super::Name;
 use super::coordinate::Unreadable;
+use super::note::{Note, together};
 use crate::maps::NoMap;
 use std::fmt;
 
@@ -31,16 +32,21 @@ pub enum Wrong {
     Extra,
     NotDue(&'static str),
     NotANumber(&'static str),
-    TooLarge(&'static str),
+    TooLarge {
+        due: &'static str,
+        most: u32,
+    },
     NotACoordinate(&'static str, Unreadable),
     Map(NoMap),
     /// Standard input was read for the plan, or for a map before.
     InputTwice,
     NoMap,
-    /// In a strict plan.
-    CoversNothing(Note),
-    /// A picture would go to standard output.
-    PictureAmongAnswers,
+    /// In a strict plan, what would be noted otherwise.
+    Noted(Vec<Note>),
+    /// In a strict plan, a licence above the first map.
+    NotHeld,
+    /// A picture's file has no name.
+    NoName,
     DrawnOver(Over),
 }
 
@@ -49,8 +55,14 @@ pub enum Wrong {
 #[non_exhaustive]
 pub enum Over {
     Plan,
-    Map { line: usize },
-    Picture { line: usize },
+    Map {
+        line: usize,
+    },
+    /// Standard output, whatever it is.
+    Answers,
+    Picture {
+        line: usize,
+    },
 }
 
 impl fmt::Display for Mistake {
@@ -64,20 +76,19 @@ impl fmt::Display for Mistake {
             Wrong::CannotRead(why) => write!(out, " the plan cannot be read: {why}"),
             Wrong::OpenQuote => write!(out, " '{word}' starts with a quote and none ends it"),
             Wrong::AfterQuote => write!(out, " '{word}' goes on behind its closing quote"),
-            Wrong::UnknownCall => {
-                write!(out, " '{word}' is not map, grant, cancel, coverage, blocks, propose or footprint")
-            }
+            Wrong::UnknownCall => write!(out, " '{word}' is not {}", Name::list()),
             Wrong::Missing(due) => write!(out, " '{word}' must be followed by {due}"),
             Wrong::Extra => write!(out, " '{word}' is a word too many"),
             Wrong::NotDue(due) => write!(out, " '{word}' stands where {due} is due"),
             Wrong::NotANumber(due) => write!(out, " {due} '{word}' is not an unsigned whole number"),
-            Wrong::TooLarge(due) => write!(out, " {due} '{word}' is out of range"),
+            Wrong::TooLarge { due, most } => write!(out, " {due} '{word}' is not within 0 to {most}"),
             Wrong::NotACoordinate(due, why) => write!(out, " {due} '{word}' {why}"),
             Wrong::Map(why) => write!(out, " map '{word}' {why}"),
             Wrong::InputTwice => write!(out, " map '{word}' is standard input, which is read already"),
             Wrong::NoMap => write!(out, " '{word}' needs a map, and no line before it names one"),
-            Wrong::CoversNothing(note) => write!(out, " '{word}': {note}"),
-            Wrong::PictureAmongAnswers => write!(out, " FILE '{word}' is standard output, where the answers go"),
+            Wrong::Noted(notes) => write!(out, " '{word}': {}", together(notes)),
+            Wrong::NotHeld => write!(out, " '{word}': no map above it to hold it against"),
+            Wrong::NoName => write!(out, " FILE '{word}' is no name of a file"),
             Wrong::DrawnOver(over) => write!(out, " FILE '{word}' is {over}"),
         }
     }
@@ -90,6 +101,7 @@ impl fmt::Display for Over {
         match self {
             Over::Plan => write!(out, "the plan itself"),
             Over::Map { line } => write!(out, "the map of line {line}"),
+            Over::Answers => write!(out, "standard output, where the answers go"),
             Over::Picture { line } => write!(out, "the picture of line {line}"),
         }
     }

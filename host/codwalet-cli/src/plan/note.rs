@@ -1,11 +1,12 @@
-//! Notes on licences that are granted and cover nothing.
+//! Notes on licences that may be meant otherwise.
 
+use super::coordinate::{arc_seconds, not_degrees};
 use codwalet::{Cell, Ground, Licence, Map, Refusal};
 use std::cell::OnceCell;
 use std::fmt;
 use std::rc::Rc;
 
-/// Why a licence counts for nothing on a map.
+/// What of a licence may be meant otherwise.
 #[derive(Clone, Debug, PartialEq, Eq)]
 #[non_exhaustive]
 pub enum Note {
@@ -13,6 +14,20 @@ pub enum Note {
     NoArea(u16),
     /// The box covers no cell. Where its edges look like degrees and are none, one of them is named.
     NoCell { like_degrees: Option<i32> },
+    /// An edge of the box is a whole number where others are degrees.
+    WholeAmongDegrees(i32),
+}
+
+impl Note {
+    /// Whether the note is on what is written, and not on what comes of the licence once it is granted.
+    pub fn is_on_writing(&self) -> bool {
+        matches!(self, Note::WholeAmongDegrees(_))
+    }
+}
+
+/// Notes as one text.
+pub fn together<'n>(notes: impl IntoIterator<Item = &'n Note>) -> String {
+    notes.into_iter().map(ToString::to_string).collect::<Vec<_>>().join("; ")
 }
 
 /// A map that licences are granted on.
@@ -52,10 +67,10 @@ impl fmt::Display for Note {
             Note::NoArea(number) => write!(out, "the map lacks area {number}"),
             Note::NoCell { like_degrees: None } => write!(out, "the box covers no cell of the map"),
             Note::NoCell { like_degrees: Some(edge) } => {
-                let (sign, size) = (if *edge < 0 { "-" } else { "" }, edge.unsigned_abs());
-                let seconds = format!("{sign}{}.{:02}", size / 100, size % 100);
-                write!(out, "the box covers no cell of the map; whole numbers are hundredths of an arc second: ")?;
-                write!(out, "{edge} is {seconds} arc seconds")
+                write!(out, "the box covers no cell of the map; {}", not_degrees(*edge))
+            }
+            Note::WholeAmongDegrees(edge) => {
+                write!(out, "{edge} is a whole number among degrees: it is {}", arc_seconds(*edge))
             }
         }
     }

@@ -1,9 +1,9 @@
 //! Reads the lines of a plan: each becomes a call, or what is wrong with it.
 
 use super::coordinate::{self, Axis};
-use super::note::Loaded;
+use super::note::{Loaded, Note};
 use super::words::{self, Fault, Word, Words};
-use super::{Call, Over, Step, Wrong};
+use super::{Call, Name, Over, Step, Wrong};
 use crate::files::{self, Identity};
 use crate::maps;
 use codwalet::{GeoBox, Licence, Map};
@@ -44,26 +44,37 @@ impl<'p> Reader<'p> {
         let call = self.call(line, &mut left)?;
         left.end()?;
         if call.reads_map() && !self.map_named {
-            return Err((call.name().to_string(), Wrong::NoMap));
+            return Err((call.name().word().to_string(), Wrong::NoMap));
         }
-        match call {
-            Call::Grant { note: Some(note), .. } if self.strict => {
-                Err((joined(&words[3..]), Wrong::CoversNothing(note)))
-            }
-            call => Ok(Some(Step { line, words: joined(&words), call })),
+        match &call {
+            Call::Grant { notes, .. } if self.strict => self.strictly(&words[3..], notes)?,
+            _ => {}
         }
+        Ok(Some(Step { line, words: joined(&words), call }))
+    }
+
+    /// Sees that nothing is noted on a licence, and that there is a map to hold it against.
+    fn strictly(&self, ground: &[Word], notes: &[Note]) -> Result<(), Fault> {
+        let wrong = if !notes.is_empty() {
+            Wrong::Noted(notes.to_vec())
+        } else if !self.map_named {
+            Wrong::NotHeld
+        } else {
+            return Ok(());
+        };
+        Err((joined(ground), wrong))
     }
 
     fn call(&mut self, line: usize, words: &mut Words) -> Result<Call, Fault> {
-        Ok(match words.next("a call")?.bytes() {
-            b"map" => self.map(line, words)?,
-            b"grant" => self.grant(words)?,
-            b"cancel" => Call::Cancel(words.number("CALLSIGN")?),
-            b"coverage" => Call::Coverage(words.number("NUMBER")?),
-            b"blocks" => Call::Blocks(words.number("NUMBER")?),
-            b"propose" => Call::Propose(words.number("DRAW")?),
-            b"footprint" => Call::Footprint(words.number("DRAW")?, self.picture(line, words)?),
-            _ => return Err(words.wrong(Wrong::UnknownCall)),
+        let name = Name::of(words.next("a call")?.bytes()).ok_or_else(|| words.wrong(Wrong::UnknownCall))?;
+        Ok(match name {
+            Name::Map => self.map(line, words)?,
+            Name::Grant => self.grant(words)?,
+            Name::Cancel => Call::Cancel(words.number("CALLSIGN", u32::MAX)?),
+            Name::Coverage => Call::Coverage(words.number("NUMBER", u16::MAX)?),
+            Name::Blocks => Call::Blocks(words.number("NUMBER", u16::MAX)?),
+            Name::Propose => Call::Propose(words.number("DRAW", u32::MAX)?),
+            Name::Footprint => Call::Footprint(words.number("DRAW", u32::MAX)?, self.picture(line, words)?),
         })
     }
 
@@ -77,7 +88,12 @@ impl<'p> Reader<'p> {
         }
         self.map_files.push((line, file.clone()));
         let found = maps::read(&file).map_err(|why| words.wrong(Wrong::Map(why)))?;
-        self.notes.extend(found.note);
+        for note in found.notes {
+            // A map that is named again has the same notes.
+            if !self.notes.contains(&note) {
+                self.notes.push(note);
+            }
+        }
         let map = Rc::new(Map::owned(found.bytes));
         self.map = Some(Loaded::new(Rc::clone(&map)));
         Ok(Call::Map { file: word.text(), map })
@@ -97,17 +113,18 @@ impl<'p> Reader<'p> {
     }
 
     fn grant(&self, words: &mut Words) -> Result<Call, Fault> {
-        let call_sign = words.number("CALLSIGN")?;
-        let (licence, like_degrees) = match words.next("area or box")?.bytes() {
-            b"area" => (Licence::area(call_sign, words.number("NUMBER")?), None),
+        let call_sign = words.number("CALLSIGN", u32::MAX)?;
+        let (licence, written) = match words.next("area or box")?.bytes() {
+            b"area" => (Licence::area(call_sign, words.number("NUMBER", u16::MAX)?), Written::default()),
             b"box" => {
-                let (edges, like_degrees) = read_box(words)?;
-                (Licence::within(call_sign, edges), like_degrees)
+                let (edges, written) = read_box(words)?;
+                (Licence::within(call_sign, edges), written)
             }
             _ => return Err(words.wrong(Wrong::NotDue("area or box"))),
         };
-        let note = self.map.as_ref().and_then(|map| map.note_on(&licence, like_degrees));
-        Ok(Call::Grant { licence, note })
+        let covers = self.map.as_ref().and_then(|map| map.note_on(&licence, written.like_degrees));
+        let mixed = written.whole_among_degrees.map(Note::WholeAmongDegrees);
+        Ok(Call::Grant { licence, notes: covers.into_iter().chain(mixed).collect() })
     }
 
     fn picture(&mut self, line: usize, words: &mut Words) -> Result<Option<PathBuf>, Fault> {
@@ -120,17 +137,23 @@ impl<'p> Reader<'p> {
         let word = words.next("FILE")?;
         let file = word.path().to_path_buf();
         if files::is_standard(&file) {
-            return Err(words.wrong(Wrong::PictureAmongAnswers));
+            return Err(words.wrong(Wrong::DrawnOver(Over::Answers)));
+        }
+        if file.as_os_str().is_empty() {
+            return Err(words.wrong(Wrong::NoName));
         }
         self.pictures.push((line, word.shown(), file.clone()));
         Ok(Some(file))
     }
 
-    /// The pictures that would be written over the plan, over a map of it, or over each other.
+    /// The pictures that would be written over the plan, over a map of it, over the answers, or over each other.
     pub fn drawn_over(&self) -> Vec<(usize, Fault)> {
         let mut taken = HashMap::from([(Identity::of(self.plan), Over::Plan)]);
         for (line, file) in &self.map_files {
             taken.entry(Identity::of(file)).or_insert(Over::Map { line: *line });
+        }
+        if let Some(output) = Identity::of_output() {
+            taken.entry(output).or_insert(Over::Answers);
         }
         let mut faults = Vec::new();
         for (line, word, file) in &self.pictures {
@@ -150,8 +173,17 @@ fn joined(words: &[Word]) -> String {
     words.iter().map(Word::written).collect::<Vec<_>>().join(" ")
 }
 
-/// A box; and one of its edges if all are whole numbers that may be meant for degrees.
-fn read_box(words: &mut Words) -> Result<(GeoBox, Option<i32>), Fault> {
+/// What the way in which a box is written tells of its edges.
+#[derive(Default)]
+struct Written {
+    /// An edge, if all are whole numbers that may be meant for degrees.
+    like_degrees: Option<i32>,
+    /// An edge that is a whole number where others are degrees.
+    whole_among_degrees: Option<i32>,
+}
+
+/// A box, and the way in which it is written.
+fn read_box(words: &mut Words) -> Result<(GeoBox, Written), Fault> {
     let written = words.rest();
     let edges = GeoBox {
         south: words.coordinate("SOUTH", Axis::Latitude)?,
@@ -160,7 +192,14 @@ fn read_box(words: &mut Words) -> Result<(GeoBox, Option<i32>), Fault> {
         east: words.coordinate("EAST", Axis::Longitude)?,
     };
     let values = [edges.south, edges.north, edges.west, edges.east];
-    let whole = written[..values.len()].iter().all(|word| word.as_str().is_some_and(coordinate::is_whole));
-    let like_degrees = whole && values.iter().all(|value| (-180..=180).contains(value));
-    Ok((edges, values.into_iter().find(|&value| like_degrees && value != 0)))
+    let is_whole = |word: &Word| word.as_str().is_some_and(coordinate::is_whole);
+    let whole = || values.into_iter().zip(written).filter(|(_, word)| is_whole(word)).map(|(value, _)| value);
+    let mut found = Written::default();
+    if whole().count() == values.len() {
+        found.like_degrees = coordinate::like_degrees(values.into_iter());
+    } else {
+        // 0 is the same in both.
+        found.whole_among_degrees = whole().find(|&value| value != 0);
+    }
+    Ok((edges, found))
 }

@@ -1,5 +1,6 @@
 //! Runs a plan: each call in turn on the engine, from an empty register.
 
+use super::note::{Note, together};
 use super::{Call, Plan, Step};
 use crate::picture::Drawing;
 use codwalet::{Blocks, Map, People, Proposal, Refusal, Register};
@@ -46,12 +47,14 @@ pub fn answers(plan: &Plan) -> impl Iterator<Item = Answer<'_>> {
     })
 }
 
-/// The note on a licence, if it was granted.
+/// The notes on a licence. Of one that was refused, only what is written is noted.
 fn note_on(call: &Call, outcome: &Outcome) -> Option<String> {
-    match (call, outcome) {
-        (Call::Grant { note, .. }, Outcome::Granted(_)) => note.as_ref().map(ToString::to_string),
-        _ => None,
-    }
+    let Call::Grant { notes, .. } = call else {
+        return None;
+    };
+    let granted = matches!(outcome, Outcome::Granted(_));
+    let due: Vec<&Note> = notes.iter().filter(|note| granted || note.is_on_writing()).collect();
+    (!due.is_empty()).then(|| together(due))
 }
 
 struct State<'p> {

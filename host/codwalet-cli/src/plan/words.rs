@@ -5,6 +5,7 @@
 
 use super::Wrong;
 use super::coordinate::{self, Axis, Unreadable, is_digits};
+use crate::shown::shown;
 use std::ffi::OsStr;
 use std::os::unix::ffi::OsStrExt;
 use std::path::Path;
@@ -38,9 +39,9 @@ impl Word {
         String::from_utf8_lossy(&self.0).into_owned()
     }
 
-    /// The word for people to read: what would move a terminal's cursor is replaced too.
+    /// The word for people to read.
     pub fn shown(&self) -> String {
-        self.text().replace(char::is_control, "\u{fffd}")
+        shown(self.path())
     }
 
     /// The word as a plan has it, in quotes if it needs them.
@@ -115,11 +116,11 @@ impl<'a> Words<'a> {
         Ok(word)
     }
 
-    /// Takes an unsigned whole number.
-    pub fn number<T: FromStr>(&mut self, due: &'static str) -> Result<T, Fault> {
+    /// Takes an unsigned whole number, up to the largest of its type.
+    pub fn number<T: FromStr + Into<u32>>(&mut self, due: &'static str, most: T) -> Result<T, Fault> {
         let word = self.next(due)?;
         let digits = word.as_str().filter(|word| is_digits(word)).ok_or_else(|| self.wrong(Wrong::NotANumber(due)))?;
-        digits.parse().map_err(|_| self.wrong(Wrong::TooLarge(due)))
+        digits.parse().map_err(|_| self.wrong(Wrong::TooLarge { due, most: most.into() }))
     }
 
     /// Takes a coordinate.
