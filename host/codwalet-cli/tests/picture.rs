@@ -4,8 +4,8 @@ mod page;
 
 use codwalet::{GeoBox, Licence};
 use codwalet_cli::picture::{svg, terminal};
-use page::cases::{Case, all, crowded, draw, over, plain, some_people};
-use page::{Element, Frame, Page};
+use page::cases::{Case, all, crowded, draw, not_away, over, plain, some_people};
+use page::{Element, Frame, Page, Stroke};
 
 /// One licence over longitudes 20 to 40.
 fn one_licence() -> [Licence; 1] {
@@ -140,6 +140,64 @@ fn labels_leave_boxes_to_be_seen() {
     }
 }
 
+/// Whether a label stands at a box: on a line of it, or no further than the room between lines and labels from one.
+fn stands_at(label: &Frame, drawn: &Element) -> bool {
+    let near = label.wider(3.1);
+    drawn.strokes().iter().any(|stroke| near.shared_area(&stroke.frame().wider(0.1)) > 0.0)
+}
+
+/// Whether a line leads from a box to a label.
+fn is_tied(page: &Page, label: &Frame, drawn: &Element) -> bool {
+    let is_tie = |element: &&Element| element.attributes.get("stroke-width").is_some_and(|width| width == "0.75");
+    let (x, y) = label.middle();
+    let ends_at_label = |tie: &Stroke| (tie.to.0 - x).abs() < 0.2 && (tie.to.1 - y).abs() < 0.2;
+    let starts_at_box = |tie: &Stroke| drawn.strokes().iter().any(|stroke| stroke.frame().wider(0.2).holds(tie.from));
+    let mut ties = page.elements.iter().filter(is_tie).flat_map(Element::strokes);
+    ties.any(|tie| ends_at_label(&tie) && starts_at_box(&tie))
+}
+
+#[test]
+fn labels_stand_at_their_boxes_or_are_tied_to_them() {
+    for case in all() {
+        let page = case.page();
+        let (labels, boxes) = (on_grid_with(&page, "rect", "rx"), on_grid_with(&page, "path", "stroke-dasharray"));
+        assert_eq!(labels.len(), boxes.len(), "{}", case.name);
+        for (index, ((_, label), (drawn, _))) in labels.iter().zip(&boxes).enumerate() {
+            assert!(stands_at(label, drawn) || is_tied(&page, label, drawn), "{}: label {index}", case.name);
+        }
+    }
+}
+
+/// Four cells that are far apart, and their points.
+const FOUR_CELLS: &str = "7,3,0,0,131,1000000,0\n7,3,0,1,44,1000000,1000000\n7,3,1,0,9999,0,0\n7,3,1,1,6,0,1000000\n";
+const FOUR_POINTS: [(i32, i32); 4] = [(1_000_000, 0), (1_000_000, 1_000_000), (0, 0), (0, 1_000_000)];
+
+/// The places of the four cells whose middles a box holds. Squares have sides of 40.
+fn held(page: &Page, drawn: &Frame) -> Vec<usize> {
+    let grid = grid_frame(page);
+    let middle = |place: usize| (grid.left + (20 + place % 2 * 40) as f64, grid.top + (20 + place / 2 * 40) as f64);
+    (0..4).filter(|&place| drawn.holds(middle(place))).collect()
+}
+
+#[test]
+fn the_smallest_boxes_are_seen_and_labelled_with_their_call_signs() {
+    // How far a box goes south, north, west and east from a cell's point.
+    let reaches = [(4, 4, 4, 4), (0, 1, 0, 1), (9_000, 300_000, 4, 4), (4, 4, 900_000, 9_000), (4, 4, 9_000, 990_000)];
+    for ((south, north, west, east), call_sign) in reaches.iter().flat_map(|reach| [(reach, 77), (reach, u32::MAX)]) {
+        for (place, (latitude, longitude)) in FOUR_POINTS.into_iter().enumerate() {
+            let (south, north) = (latitude - south, latitude + north);
+            let edges = GeoBox { south, north, west: longitude - west, east: longitude + east };
+            let page = Page::read(&svg(&draw(FOUR_CELLS, &[Licence::within(call_sign, edges)])));
+            let (labels, boxes) = (on_grid_with(&page, "rect", "rx"), on_grid_with(&page, "path", "stroke-dasharray"));
+            let (drawn, frame) = boxes[0];
+            assert!(frame.width() >= 6.0 && frame.height() >= 6.0, "{edges:?}: {frame:?}");
+            assert_eq!(held(&page, &frame), [place], "{edges:?}: {frame:?}");
+            assert_eq!(numbers(&page, true), [call_sign as usize], "{edges:?}");
+            assert!(stands_at(&labels[0].1, drawn), "{edges:?}: {labels:?}");
+        }
+    }
+}
+
 #[test]
 fn boxes_over_the_same_cells_are_drawn_as_one() {
     let case = plain().into_iter().find(|case| case.name == "the same box").expect("there is such a case");
@@ -165,11 +223,11 @@ fn title_and_description_come_first() {
     }
 }
 
-/// The grid's width and height: those of the outline of its cells.
-fn grid_size(page: &Page) -> (f64, f64) {
+/// Where the grid stands: the outline of its cells.
+fn grid_frame(page: &Page) -> Frame {
     let is_outline = |element: &Element| element.attributes.get("stroke").is_some_and(|colour| colour == "#8b95a3");
     let outline = page.drawn().find(|(element, _)| is_outline(element));
-    outline.map(|(_, frame)| (frame.width(), frame.height())).expect("the cells have an outline")
+    outline.map(|(_, frame)| frame).expect("the cells have an outline")
 }
 
 #[test]
@@ -178,8 +236,11 @@ fn grids_keep_to_their_size_and_have_a_scale() {
     let cases = [(128, 4, 5, 20), (4, 128, 5, 20), (128, 128, 5, 20), (60, 10, 12, 10), (30, 30, 24, 5), (3, 4, 40, 1)];
     for (rows, columns, side, cells) in cases {
         let licences = vec![over(1, 0..2, 0..2)];
-        let page = Case { name: "", rows, columns, weight: 1, people: some_people, licences }.page();
-        assert_eq!(grid_size(&page), ((columns * side) as f64, (rows * side) as f64), "{rows} x {columns}");
+        let (people, away) = (some_people, not_away);
+        let page = Case { name: "", rows, columns, weight: 1, people, away, licences }.page();
+        let grid = grid_frame(&page);
+        let size = ((columns * side) as f64, (rows * side) as f64);
+        assert_eq!((grid.width(), grid.height()), size, "{rows} x {columns}");
         let words = page.text(&format!("{cells} cell{}", if cells == 1 { "" } else { "s" })).expect("there is a scale");
         let bar = (cells * side) as f64;
         let is_bar = |frame: Frame| {

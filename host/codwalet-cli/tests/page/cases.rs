@@ -15,16 +15,7 @@ pub fn draw(lines: &str, licences: &[Licence]) -> Drawing {
     Drawing::make(&map, &register, 0).expect("there is a footprint")
 }
 
-/// The cells of area 212, ten hundredths of an arc second apart, the people of each cell by its place.
-fn grid(rows: usize, columns: usize, weight: u32, people: fn(usize) -> usize) -> String {
-    let line = |place: usize| {
-        let (row, column) = (place / columns, place % columns);
-        format!("212,{weight},{row},{column},{},{},{}\n", people(place), -10 * row as i32, 10 * column as i32)
-    };
-    (0..rows * columns).map(line).collect()
-}
-
-/// A licence for a box over some rows and columns of such a grid, its call sign having ten digits.
+/// A licence for a box over some rows and columns of a case's grid, its call sign having ten digits.
 pub fn over(number: u32, rows: Range<i32>, columns: Range<i32>) -> Licence {
     let edges = GeoBox {
         north: 5 - 10 * rows.start,
@@ -35,20 +26,30 @@ pub fn over(number: u32, rows: Range<i32>, columns: Range<i32>) -> Licence {
     Licence::within(4_000_000_000 + number, edges)
 }
 
-/// A picture of area 212.
+/// A picture of area 212. Its cells are ten hundredths of an arc second apart.
 pub struct Case {
     pub name: &'static str,
     pub rows: usize,
     pub columns: usize,
     pub weight: u32,
+    /// The people of a cell, by its place.
     pub people: fn(usize) -> usize,
+    /// How far a cell's point is from where the grid has it, in latitude and longitude, by the cell's place.
+    pub away: fn(i32) -> (i32, i32),
     pub licences: Vec<Licence>,
 }
 
 impl Case {
     pub fn page(&self) -> Page {
-        let Case { rows, columns, weight, people, .. } = *self;
-        Page::read(&svg(&draw(&grid(rows, columns, weight, people), &self.licences)))
+        let lines: String = (0..self.rows * self.columns).map(|place| self.line(place)).collect();
+        Page::read(&svg(&draw(&lines, &self.licences)))
+    }
+
+    /// The line of a cell.
+    fn line(&self, place: usize) -> String {
+        let (row, column, away) = (place / self.columns, place % self.columns, (self.away)(place as i32));
+        let (latitude, longitude) = (away.0 - 10 * row as i32, away.1 + 10 * column as i32);
+        format!("212,{},{row},{column},{},{latitude},{longitude}\n", self.weight, (self.people)(place))
     }
 
     pub fn call_signs(&self) -> impl Iterator<Item = String> {
@@ -61,13 +62,24 @@ pub fn some_people(place: usize) -> usize {
     place * 7919 % 131
 }
 
+/// Points where the grid has them.
+pub fn not_away(_: i32) -> (i32, i32) {
+    (0, 0)
+}
+
+/// Points up to one and a half cells away.
+fn scattered(place: i32) -> (i32, i32) {
+    (place * 7919 % 31 - 15, place * 6151 % 31 - 15)
+}
+
 /// 64 boxes, each made from its number, over a grid of some rows and columns.
 fn boxes(name: &'static str, rows: usize, columns: usize, each: fn(i32) -> (Range<i32>, Range<i32>)) -> Case {
     let licence = |number: u32| {
         let (rows, columns) = each(number as i32);
         over(number, rows, columns)
     };
-    Case { name, rows, columns, weight: 3, people: some_people, licences: (0..64).map(licence).collect() }
+    let licences = (0..64).map(licence).collect();
+    Case { name, rows, columns, weight: 3, people: some_people, away: not_away, licences }
 }
 
 /// From a start on, so many.
@@ -87,6 +99,10 @@ pub fn crowded() -> Vec<Case> {
         boxes("wide and low", 4, 128, |n| (from(n % 3, 1 + n % 2), from(n * 29 % 110, 3 + n % 14))),
         boxes("tall and narrow", 128, 4, |n| (from(n * 29 % 110, 3 + n % 14), from(n % 3, 1 + n % 2))),
         boxes("in few cells", 4, 4, |n| (0..1 + n % 4, n / 16..1 + n / 4 % 4 + n / 16)),
+        Case {
+            away: scattered,
+            ..boxes("outlined", 30, 30, |n| (from(n * 7 % 26, 3 + n % 5), from(n * 11 % 26, 3 + n * 3 % 6)))
+        },
     ]
 }
 
@@ -97,7 +113,15 @@ pub fn plain() -> Vec<Case> {
     let with_area = few.iter().copied().chain(whole_area).collect();
     let corners = [(1, 0, 127), (2, 127, 0), (3, 127, 127)];
     let corners = corners.map(|(number, row, column)| over(number, from(row, 1), from(column, 1)));
-    let case = |name, rows, columns, licences| Case { name, rows, columns, weight: 3, people: some_people, licences };
+    let case = |name, rows, columns, licences| Case {
+        name,
+        rows,
+        columns,
+        weight: 3,
+        people: some_people,
+        away: not_away,
+        licences,
+    };
     vec![
         case("few", 12, 12, few),
         case("with the whole area", 12, 12, with_area),

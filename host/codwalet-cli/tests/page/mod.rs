@@ -57,8 +57,55 @@ impl Frame {
         self.left >= other.left && self.right <= other.right && self.top >= other.top && self.bottom <= other.bottom
     }
 
-    fn moved(self, (x, y): (f64, f64)) -> Frame {
+    /// Whether a point lies inside.
+    pub fn holds(&self, (x, y): Point) -> bool {
+        x > self.left && x < self.right && y > self.top && y < self.bottom
+    }
+
+    pub fn middle(&self) -> Point {
+        ((self.left + self.right) / 2.0, (self.top + self.bottom) / 2.0)
+    }
+
+    /// The rectangle made larger on all sides by some room.
+    pub fn wider(&self, room: f64) -> Frame {
+        Frame { left: self.left - room, top: self.top - room, right: self.right + room, bottom: self.bottom + room }
+    }
+
+    /// The least rectangle that holds some points. None if there are none.
+    fn around(points: impl Iterator<Item = Point>) -> Option<Frame> {
+        let frame = |(x, y): Point| Frame { left: x, top: y, right: x, bottom: y };
+        points.map(frame).reduce(|one, other| Frame {
+            left: one.left.min(other.left),
+            top: one.top.min(other.top),
+            right: one.right.max(other.right),
+            bottom: one.bottom.max(other.bottom),
+        })
+    }
+
+    fn moved(self, (x, y): Point) -> Frame {
         Frame { left: self.left + x, top: self.top + y, right: self.right + x, bottom: self.bottom + y }
+    }
+}
+
+/// A point on the page: how far right and how far down.
+pub type Point = (f64, f64);
+
+/// A straight line on the page.
+#[derive(Clone, Copy, Debug, PartialEq)]
+pub struct Stroke {
+    pub from: Point,
+    pub to: Point,
+}
+
+impl Stroke {
+    /// The rectangle around it.
+    pub fn frame(&self) -> Frame {
+        Frame::around([self.from, self.to].into_iter()).expect("there are two points")
+    }
+
+    fn moved(self, by: Point) -> Stroke {
+        let moved = |(x, y): Point| (x + by.0, y + by.1);
+        Stroke { from: moved(self.from), to: moved(self.to) }
     }
 }
 
@@ -172,11 +219,21 @@ impl Element {
         let frame = match self.name.as_str() {
             "text" => self.text_frame(),
             "rect" => self.rect_frame(),
-            "path" => path_frame(&self.attributes["d"])?,
+            "path" => return Frame::around(self.strokes().iter().flat_map(|stroke| [stroke.from, stroke.to])),
             _ => return None,
         };
+        Some(frame.moved(self.moved()))
+    }
+
+    /// How far it is moved by the elements around it.
+    fn moved(&self) -> Point {
         let moved = self.attributes.get("transform").map_or(vec![0.0, 0.0], |transform| numbers(transform));
-        Some(frame.moved((moved[0], moved[1])))
+        (moved[0], moved[1])
+    }
+
+    /// The lines of a path.
+    pub fn strokes(&self) -> Vec<Stroke> {
+        strokes(&self.attributes["d"]).into_iter().map(|stroke| stroke.moved(self.moved())).collect()
     }
 
     fn rect_frame(&self) -> Frame {
@@ -184,10 +241,10 @@ impl Element {
         Frame { left, top, right: left + self.number("width"), bottom: top + self.number("height") }
     }
 
-    /// Text as it stands in a wide font: 0.6 em for a character, 0.7 em for a bold one; 0.75 em above its line.
+    /// Text as it stands in a wide font: 0.64 em for a character, 0.7 em for a bold one; 0.75 em above its line.
     fn text_frame(&self) -> Frame {
         let (x, y, size) = (self.number("x"), self.number("y"), self.number("font-size"));
-        let em = if self.attributes.contains_key("font-weight") { 0.7 } else { 0.6 };
+        let em = if self.attributes.contains_key("font-weight") { 0.7 } else { 0.64 };
         let width = em * size * self.words.chars().count() as f64;
         let left = match self.attributes.get("text-anchor").map(String::as_str) {
             Some("middle") => x - width / 2.0,
@@ -204,14 +261,14 @@ fn numbers(text: &str) -> Vec<f64> {
     words.filter(|word| !word.is_empty()).map(|word| word.parse().expect("a number")).collect()
 }
 
-/// The rectangle around a path. None if the path is empty.
-fn path_frame(path: &str) -> Option<Frame> {
+/// The lines of a path.
+fn strokes(path: &str) -> Vec<Stroke> {
     let (mut x, mut y, mut start) = (0.0, 0.0, (0.0, 0.0));
-    let mut points = Vec::new();
+    let mut strokes = Vec::new();
     let starts: Vec<usize> = path.match_indices(|sign: char| sign.is_ascii_alphabetic()).map(|(at, _)| at).collect();
     for (index, &at) in starts.iter().enumerate() {
         let end = starts.get(index + 1).copied().unwrap_or(path.len());
-        let steps = numbers(&path[at + 1..end]);
+        let (from, steps) = ((x, y), numbers(&path[at + 1..end]));
         match (&path[at..=at], steps.as_slice()) {
             ("M" | "L", &[to_x, to_y]) => (x, y) = (to_x, to_y),
             ("m" | "l", &[by_x, by_y]) => (x, y) = (x + by_x, y + by_y),
@@ -224,14 +281,9 @@ fn path_frame(path: &str) -> Option<Frame> {
         }
         if path[at..=at].eq_ignore_ascii_case("m") {
             start = (x, y);
+        } else {
+            strokes.push(Stroke { from, to: (x, y) });
         }
-        points.push((x, y));
     }
-    let frame = |(x, y): (f64, f64)| Frame { left: x, top: y, right: x, bottom: y };
-    points.into_iter().map(frame).reduce(|one, other| Frame {
-        left: one.left.min(other.left),
-        top: one.top.min(other.top),
-        right: one.right.max(other.right),
-        bottom: one.bottom.max(other.bottom),
-    })
+    strokes
 }

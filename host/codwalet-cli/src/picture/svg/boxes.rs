@@ -9,6 +9,12 @@ use codwalet::{Cell, GeoBox};
 
 /// Colours of boxes, in turn, so that lines that cross can be told apart.
 const COLOURS: [&str; 5] = ["#9d174d", "#166534", "#6d28d9", "#7c4a03", "#0f5e6e"];
+/// The least width and height of a box, so that it can be seen. Where squares are smaller it is their side, so that a
+/// box made larger doesn't reach the middle of another square.
+const LEAST_LENGTH: f64 = 8.0;
+/// The lengths of a dash and of the gap after it. Boxes that are no larger than both have no gaps in their lines.
+const DASH: f64 = 7.0;
+const DASH_GAP: f64 = 4.0;
 
 /// A box as it is drawn. Boxes that cover the same cells are drawn as one, the first by call sign.
 pub(super) struct DrawnBox {
@@ -33,13 +39,19 @@ impl DrawnBox {
     }
 
     pub(super) fn element(&self, grid: &Grid) -> String {
-        format!("<path d=\"{}\" {}/>", self.path, dashes(self.colour, grid.by_side(2.0, 1.25)))
+        let Rectangle { left, right, top, bottom } = self.frame;
+        let paint = if (right - left).max(bottom - top) <= DASH + DASH_GAP {
+            format!("{} stroke-dasharray=\"none\"", stroke(self.colour, 1.25))
+        } else {
+            dashes(self.colour, grid.by_side(2.0, 1.25))
+        };
+        format!("<path d=\"{}\" {paint}/>", self.path)
     }
 }
 
 /// The paint of the lines of boxes.
 pub(super) fn dashes(colour: &str, width: f64) -> String {
-    format!("{} stroke-dasharray=\"7 4\"", stroke(colour, width))
+    format!("{} stroke-dasharray=\"{DASH} {DASH_GAP}\"", stroke(colour, width))
 }
 
 impl Grid<'_> {
@@ -78,17 +90,19 @@ impl Grid<'_> {
         self.drawing.cells.iter().enumerate().filter_map(|(place, &cell)| Some((place, cell?)))
     }
 
-    /// Where a box lies on the grid, cut at the grid's edges.
+    /// Where a box lies on the grid, cut at the grid's edges and large enough to be seen.
     fn rectangle(&self, fits: &Fits, edges: &GeoBox) -> Rectangle {
-        let scaled = |place: f64, places: usize| place.clamp(0.0, places as f64) * self.side as f64;
+        let side = self.side as f64;
+        let scaled = |place: f64, places: usize| place.clamp(0.0, places as f64) * side;
         let (left, right) = ordered(fits.column.place(edges.west), fits.column.place(edges.east));
         let (top, bottom) = ordered(fits.row.place(edges.north), fits.row.place(edges.south));
-        Rectangle {
+        let cut = Rectangle {
             left: scaled(left, self.drawing.columns),
             right: scaled(right, self.drawing.columns),
             top: scaled(top, self.drawing.rows),
             bottom: scaled(bottom, self.drawing.rows),
-        }
+        };
+        cut.at_least(LEAST_LENGTH.min(side)).moved_into(&self.frame())
     }
 
     /// Whether a rectangle holds the middles of just those cells that the box covers. Middles within a twentieth of a

@@ -7,11 +7,11 @@ use crate::picture::{Drawing, Mark};
 
 /// The longest that a grid's width and height are, and how small and large its squares are, in the picture's units.
 /// Squares at their smallest come before the grid's length.
-const LONGEST: usize = 720;
+const LONGEST_GRID: usize = 720;
 const SMALLEST_SIDE: usize = 4;
 const LARGEST_SIDE: usize = 40;
-/// With many boxes, the squares of small areas are larger, so that labels have room.
-const FEW_BOXES: usize = 16;
+/// With more boxes than this, the squares of small areas are larger, so that labels have room.
+const MOST_BOXES_ON_USUAL_SQUARES: usize = 16;
 const LARGEST_SIDE_FOR_MANY: usize = 120;
 /// Below this side a square's lines are thinner.
 const FINE: usize = 16;
@@ -43,8 +43,9 @@ pub(super) struct Grid<'d> {
 
 impl<'d> Grid<'d> {
     pub(super) fn new(drawing: &'d Drawing) -> Grid<'d> {
-        let largest = if drawing.boxes().count() > FEW_BOXES { LARGEST_SIDE_FOR_MANY } else { LARGEST_SIDE };
-        let side = (LONGEST / drawing.rows.max(drawing.columns)).clamp(SMALLEST_SIDE, largest);
+        let largest =
+            if drawing.boxes().count() > MOST_BOXES_ON_USUAL_SQUARES { LARGEST_SIDE_FOR_MANY } else { LARGEST_SIDE };
+        let side = (LONGEST_GRID / drawing.rows.max(drawing.columns)).clamp(SMALLEST_SIDE, largest);
         Grid { drawing, side }
     }
 }
@@ -56,6 +57,11 @@ impl Grid<'_> {
 
     pub(super) fn height(&self) -> f64 {
         (self.drawing.rows * self.side) as f64
+    }
+
+    /// The rectangle of all places.
+    pub(super) fn frame(&self) -> Rectangle {
+        Rectangle { left: 0.0, right: self.width(), top: 0.0, bottom: self.height() }
     }
 
     /// The first of two values, or the second where squares are small.

@@ -11,8 +11,8 @@ use placing::{Placing, Spot};
 const CALL_SIGN: Font = Font { size: 12.0, bold: true };
 const NUMBER: Font = Font { size: 11.0, bold: true };
 /// Call signs are for no more boxes than this, each with no more licences than this.
-const FEW_BOXES: usize = 12;
-const FEW_LICENCES: usize = 3;
+const MOST_BOXES_WITH_CALL_SIGNS: usize = 12;
+const MOST_CALL_SIGNS_OF_BOX: usize = 3;
 
 /// The labels of all boxes.
 pub(super) struct Labels {
@@ -33,7 +33,8 @@ impl Labels {
         let call_signs: Vec<String> = boxes.iter().map(call_signs).collect();
         let labels = place(grid, boxes, CALL_SIGN, call_signs);
         let is_clear = |label: &Label| label.spot.crossed == 0 && label.spot.tie.is_none();
-        let are_few = boxes.len() <= FEW_BOXES && boxes.iter().all(|drawn| drawn.call_signs.len() <= FEW_LICENCES);
+        let are_few = boxes.len() <= MOST_BOXES_WITH_CALL_SIGNS
+            && boxes.iter().all(|drawn| drawn.call_signs.len() <= MOST_CALL_SIGNS_OF_BOX);
         if are_few && labels.len() == boxes.len() && labels.iter().all(is_clear) {
             return Labels { numbered: false, labels, font: CALL_SIGN };
         }

@@ -75,7 +75,8 @@ impl Legend {
         let Some(width) = entries.iter().map(Entry::width).reduce(f64::max) else { return };
         self.bottom += GAP;
         self.words(STRONG, 0.0, heading);
-        let columns = (self.width / width).floor().max(1.0) as usize;
+        // There is no need for room after the last column.
+        let columns = ((self.width + Entry::COLUMN_ROOM) / width).floor().max(1.0) as usize;
         let lines = entries.len().div_ceil(columns);
         for (index, entry) in entries.iter().enumerate() {
             let (column, line) = ((index / lines) as f64, (index % lines) as f64);
@@ -108,6 +109,8 @@ impl Entry {
     const NUMBER: Font = Font { size: 12.0, bold: true };
     /// The width of a number with the room after it.
     const NUMBER_WIDTH: f64 = 26.0;
+    /// The room between columns of entries.
+    const COLUMN_ROOM: f64 = 2.0 * GAP;
 
     /// How far to the right of the entry's edge its call sign stands.
     fn indent(&self) -> f64 {
@@ -117,7 +120,7 @@ impl Entry {
 
     /// The width with the room after it.
     fn width(&self) -> f64 {
-        self.indent() + SMALL.width(&self.call_sign.to_string()) + 2.0 * GAP
+        self.indent() + SMALL.width(&self.call_sign.to_string()) + Entry::COLUMN_ROOM
     }
 
     fn elements(&self, x: f64, y: f64) -> Vec<String> {

@@ -8,13 +8,13 @@ use crate::picture::Drawing;
 
 /// The scale's bar is as many cells long as fit into its length.
 const CELLS: [usize; 4] = [20, 10, 5, 1];
-const LONGEST: usize = 120;
+const LONGEST_BAR: usize = 120;
 /// The height of both with the room below.
 pub(super) const HEIGHT: f64 = 34.0;
 
 /// The scale, and behind it the arrow if there is one.
 pub(super) fn elements(grid: &Grid, left: f64, top: f64) -> Vec<String> {
-    let cells = CELLS.into_iter().find(|cells| cells * grid.side <= LONGEST).unwrap_or(1);
+    let cells = CELLS.into_iter().find(|cells| cells * grid.side <= LONGEST_BAR).unwrap_or(1);
     let length = (cells * grid.side) as f64;
     let words = counted(cells as u64, "cell", "cells");
     let mut elements = vec![

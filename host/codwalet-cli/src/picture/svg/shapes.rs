@@ -25,6 +25,20 @@ impl Rectangle {
         Rectangle { left: left - room, right: right + room, top: top - room, bottom: bottom + room }
     }
 
+    /// The rectangle with at least a width and height, made larger around its middle.
+    pub(super) fn at_least(&self, length: f64) -> Rectangle {
+        let Rectangle { left, right, top, bottom } = *self;
+        let (across, down) = ((length - (right - left)).max(0.0) / 2.0, (length - (bottom - top)).max(0.0) / 2.0);
+        Rectangle { left: left - across, right: right + across, top: top - down, bottom: bottom + down }
+    }
+
+    /// The rectangle moved by as little as it takes to lie within another one, if it is not larger.
+    pub(super) fn moved_into(&self, other: &Rectangle) -> Rectangle {
+        let (left, right) = moved_between((self.left, self.right), (other.left, other.right));
+        let (top, bottom) = moved_between((self.top, self.bottom), (other.top, other.bottom));
+        Rectangle { left, right, top, bottom }
+    }
+
     /// The least rectangle that holds both.
     pub(super) fn with(&self, other: &Rectangle) -> Rectangle {
         Rectangle {
@@ -72,6 +86,17 @@ impl Rectangle {
     pub(super) fn path(&self) -> String {
         let Rectangle { left, right, top, bottom } = self;
         format!("M{left:.1} {top:.1}H{right:.1}V{bottom:.1}H{left:.1}z")
+    }
+}
+
+/// A stretch moved by as little as it takes to lie between two ends, if it is not longer.
+fn moved_between((from, to): (f64, f64), (least, most): (f64, f64)) -> (f64, f64) {
+    if to > most {
+        (from - (to - most), most)
+    } else if from < least {
+        (least, to + (least - from))
+    } else {
+        (from, to)
     }
 }
 

@@ -15,9 +15,10 @@ pub(super) const STRONG: Font = Font { size: 13.0, bold: true };
 pub(super) const SMALL: Font = Font { size: 12.0, bold: false };
 
 impl Font {
-    /// How wide some words are, at most. The font is the reader's, so this goes by the wider ones.
+    /// How wide numbers and sentences are, at most. The font is the reader's, so this goes by the digits of DejaVu
+    /// Sans, which are 0.636 em wide and 0.696 em in bold; those of Liberation Sans, Arial and Helvetica are 0.556 em.
     pub(super) fn width(self, words: &str) -> f64 {
-        let em = if self.bold { 0.7 } else { 0.6 };
+        let em = if self.bold { 0.7 } else { 0.64 };
         em * self.size * words.chars().count() as f64
     }
 
@@ -76,8 +77,8 @@ mod tests {
     #[test]
     fn lines_break_between_words() {
         let font = Font { size: 10.0, bold: false };
-        assert_eq!(font.wrap("one two three", 42.0), ["one two", "three"]);
-        assert_eq!(font.wrap("one two three", 41.0), ["one", "two", "three"]);
+        assert_eq!(font.wrap("one two three", 45.0), ["one two", "three"]);
+        assert_eq!(font.wrap("one two three", 44.0), ["one", "two", "three"]);
         assert_eq!(font.wrap("one", 1.0), ["one"]);
     }
 

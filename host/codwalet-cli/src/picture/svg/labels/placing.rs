@@ -8,11 +8,11 @@ use crate::picture::svg::grid::Grid;
 use crate::picture::svg::shapes::{Line, Rectangle};
 use crate::picture::svg::{BAND, MARGIN};
 
-/// The room between labels, between spots that are tried, and between a label within a box and the box's top.
+/// The room between labels, between spots that are tried, and between a line of a box and a label within or next to it.
 const ROOM: f64 = 1.0;
 const STEP: f64 = 4.0;
 const INSET: f64 = 3.0;
-/// How much of a box one label may hide, and how much of the grid all labels together: else they stand around it.
+/// How much of a box one label may hide, and how much of the grid several labels together: else they stand around it.
 const MOST_HIDDEN_OF_BOX: f64 = 0.35;
 const MOST_HIDDEN_OF_GRID: f64 = 0.1;
 
@@ -41,12 +41,13 @@ pub(super) struct Placing<'a> {
 
 impl<'a> Placing<'a> {
     pub(super) fn new(grid: &Grid, boxes: &'a [DrawnBox], sizes: &'a [(f64, f64)]) -> Placing<'a> {
-        let whole = Rectangle { left: 0.0, right: grid.width(), top: 0.0, bottom: grid.height() };
+        let whole = grid.frame();
         let (across, down) = (MARGIN - 4.0, BAND - 4.0);
         let region = Rectangle { left: -across, right: whole.right + across, top: -down, bottom: whole.bottom + down };
         let hidden: f64 = sizes.iter().map(|(width, height)| width * height).sum();
         let taken = grid.figures().iter().map(|figure| figure.at).collect();
-        let kept_free = (hidden > MOST_HIDDEN_OF_GRID * grid.width() * grid.height()).then_some(whole);
+        let hide_much = boxes.len() > 1 && hidden > MOST_HIDDEN_OF_GRID * whole.area();
+        let kept_free = hide_much.then_some(whole);
         Placing { boxes, sizes, region, kept_free, taken }
     }
 
@@ -97,14 +98,19 @@ impl<'a> Placing<'a> {
         })
     }
 
-    /// The spots above, below, right and left of a box, free or not.
+    /// The spots next to a box's lines, free or not.
     fn spots_next_to(&self, index: usize) -> impl Iterator<Item = Spot> {
-        let ((width, height), frame) = (self.sizes[index], self.boxes[index].frame);
-        let (x, y) = (frame.left + width / 2.0, frame.top + height / 2.0);
-        let (across, down) = (width / 2.0 + INSET, height / 2.0 + INSET);
-        let middles =
-            [(x, frame.top - down), (x, frame.bottom + down), (frame.right + across, y), (frame.left - across, y)];
-        middles.into_iter().map(move |middle| self.spot_off_lines(index, Rectangle::around(middle, (width, height))))
+        let (size, drawn) = (self.sizes[index], &self.boxes[index]);
+        let next_to_lines = drawn.lines.iter().flat_map(move |line| self.next_to(line, size));
+        next_to_lines.filter(|at| !drawn.crosses(at)).map(move |at| self.spot_off_lines(index, at))
+    }
+
+    /// The rectangles of a size on both sides of a line, moved along it where they would leave the region. One that
+    /// would have to be moved away from the line is left out.
+    fn next_to(&self, line: &Line, size: (f64, f64)) -> impl Iterator<Item = Rectangle> {
+        let (line, region) = (*line, self.region);
+        let moved = both_sides(&line, size).into_iter().map(move |at| at.moved_into(&region));
+        moved.filter(move |at| line.crosses(&at.wider(INSET)))
     }
 
     /// A spot that is not on a line of its box, so that another box around it counts as one with a line there.
@@ -154,6 +160,14 @@ impl<'a> Placing<'a> {
         let corners = along(top, bottom).flat_map(move |y| along(left, right).map(move |x| (x, y)));
         corners.map(move |(x, y)| Rectangle::around((x + size.0 / 2.0, y + size.1 / 2.0), size))
     }
+}
+
+/// The rectangles of a size on both sides of a line, from the line's start on.
+fn both_sides(line: &Line, (width, height): (f64, f64)) -> [Rectangle; 2] {
+    let (x, y) = (line.start.0 + width / 2.0, line.start.1 + height / 2.0);
+    let (before, behind) =
+        if line.down { ((x - width - INSET, y), (x + INSET, y)) } else { ((x, y - height - INSET), (x, y + INSET)) };
+    [before, behind].map(|middle| Rectangle::around(middle, (width, height)))
 }
 
 /// The points of a line that a label may have its middle on: within the line's ends, or the line's middle.
