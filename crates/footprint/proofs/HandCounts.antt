@@ -36,7 +36,8 @@ use Rattle.footprint.specs.Refusals.{cellAreas, areaLicences}
 -- both tables, evaluated
 tables : (map comes rows ≡ map expected rows) × (map refusals.comes refusals.rows ≡ map refusals.expected refusals.rows)
 unfolding proposalOn proposal refusedBy answerOf given laterMarks firstMark getsBy kindOf chosen drawn tied best
-    ahead rank whitePer whiteSpace isAllWhole noPart makesPart allowedChoices allowed allowedBy share wholeSize partAreas wholeAreas choices totalValue partials
+    ahead rank whitePer whiteSpace isAllWhole noPart makesPart allowedChoices allowed allowedBy share
+    wholeSize partAreas wholeAreas choices totalValue partials
     smallest greatest sets.setNumber sets.totalOf sets.sets sets.takenOf filter upTo foremost firstOr someBelow sumBelow
     remainder roundsUp wholeBlocks partial value size locate footprintOf footprintBy footprintOn
     ring around outside edge someSide allSides above below left right

@@ -55,8 +55,8 @@ module _ (words : List ℕ) (at : ℕ) (mask table : List ℕ) where
   unfolding itemAt
   item-footprint k = rw k
 
-  pub item-unknown : (getD words at 0 ≡ 0 → ⊥) → (getD words at 0 ≡ 1 → ⊥) → (getD words at 0 ≡ 2 → ⊥) → (getD words at 0 ≡ 3 → ⊥)
-      → unknown ≡ itemAt words at mask table
+  pub item-unknown : (getD words at 0 ≡ 0 → ⊥) → (getD words at 0 ≡ 1 → ⊥) → (getD words at 0 ≡ 2 → ⊥)
+      → (getD words at 0 ≡ 3 → ⊥) → unknown ≡ itemAt words at mask table
   unfolding itemAt
   item-unknown a b c d =
       rw (ne-eqb (getD words at 0) 0 a, ne-eqb (getD words at 0) 1 b, ne-eqb (getD words at 0) 2 c, ne-eqb (getD words at 0) 3 d)

@@ -16,10 +16,22 @@ fn main() -> Result<(), Box<dyn Error>> {
     let here = PathBuf::from(env::var("CARGO_MANIFEST_DIR")?);
     let out = PathBuf::from(env::var("OUT_DIR")?);
     declare(&here.join("../include/codwalet.h"), &out.join("declarations.rs"))?;
-    println!("cargo::rerun-if-env-changed={FOLDER}");
-    link(&env::var_os(FOLDER).map_or(here.join("../../target/staticlib"), PathBuf::from));
+    link(&archive_folder(&here)?);
     println!("cargo::rerun-if-changed=build");
     Ok(())
+}
+
+/// The folder that the variable names, else the one that `rt staticlib abi` writes to.
+fn archive_folder(here: &Path) -> Result<PathBuf, String> {
+    println!("cargo::rerun-if-env-changed={FOLDER}");
+    match env::var_os(FOLDER).map(PathBuf::from) {
+        // The build runs in another folder than the one that a caller would mean.
+        Some(folder) if folder.is_relative() => {
+            Err(format!("{FOLDER} is '{}', not an absolute path", folder.display()))
+        }
+        Some(folder) => Ok(folder),
+        None => Ok(here.join("../../target/staticlib")),
+    }
 }
 
 fn declare(header: &Path, declarations: &Path) -> Result<(), Box<dyn Error>> {
