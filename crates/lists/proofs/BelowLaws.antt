@@ -1,15 +1,16 @@
 -- Laws of tests and sums over the numbers below n. Assumes nothing.
 use Prim.Native.Nat.{ℕ, zero, suc, _+_, _*_, _≤_, _<_}
 use mathlib.Core.Path.{_≡_, refl, sym, ap, _∙_}
-use mathlib.Core.Bool.{Bool, true, false, cond, _||_, or-true, or-false, or-assoc}
+use mathlib.Core.Bool.{Bool, true, false, cond, _||_, _&&_, or-true, or-false, or-assoc}
 use mathlib.Core.List.{[], _∷_}
 use native.Mathlib.Omega.{arith}
 use native.Mathlib.Nat.{add-zero, add-suc, mul-suc}
+use native.Mathlib.Numerals.{add-one}
 use lib.Dec.{eqb}
 use borrow.Author.Tests.{eqb-true, eqb-false}
-use Rattle.lists.specs.Sums.{total, someBelow, sumBelow}
+use Rattle.lists.specs.Sums.{total, someBelow, everyBelow, sumBelow, sumTo}
 use Rattle.lists.specs.Filters.{filter, upTo}
-use Rattle.lists.proofs.Tests.{by-test, not-both}
+use Rattle.lists.proofs.Tests.{by-test, not-both, first-of, second-of}
 use Rattle.lists.proofs.SumLaws.{total-append}
 use Rattle.lists.proofs.FilterLaws.{filter-next}
 
@@ -64,7 +65,49 @@ some-add test a (suc k) =
     (ap (λ (b : Bool). b || test (a + k)) (some-add test a k)
     ∙ or-assoc (someBelow test a) (someBelow (λ j. test (a + j)) k) (test (a + k)))
 
+-- ---- every number passes
+
+-- what every number below n passes, each does
+pub every-below : (test : ℕ → Bool) (n : ℕ) → everyBelow test n ≡ true → (i : ℕ) → i < n → test i ≡ true
+unfolding everyBelow
+every-below test zero h i l = absurd (omega arith)
+every-below test (suc n) h i l = by-test (eqb i n)
+    (λ q. ap test (eqb-true i n q) ∙ second-of (everyBelow test n) (test n) h)
+    (λ q. let ne = eqb-false i n q in every-below test n (first-of (everyBelow test n) (test n) h) i (omega arith))
+
+-- the same numbers pass
+pub every-same : (f g : ℕ → Bool) (n : ℕ) → ((i : ℕ) → i < n → f i ≡ g i) → everyBelow f n ≡ everyBelow g n
+unfolding everyBelow
+every-same f g zero h = refl
+every-same f g (suc n) h = λ i. every-same f g n (λ k b. h k (omega arith)) i && h n (omega arith) i
+
+-- two tests together
+pub every-both : (f g : ℕ → Bool) (n : ℕ) → everyBelow (λ i. f i && g i) n ≡ everyBelow f n && everyBelow g n
+unfolding everyBelow
+every-both f g zero = refl
+every-both f g (suc n) = ap (λ (b : Bool). b && (f n && g n)) (every-both f g n) ∙ turn (everyBelow f n) (everyBelow g n) (f n) (g n)
+  where
+    turn : (a b c d : Bool) → a && b && (c && d) ≡ a && c && (b && d)
+    turn true true c d = refl
+    turn true false true d = refl
+    turn true false false d = refl
+    turn false b c d = refl
+
 -- ---- sums
+
+-- one number more
+pub sum-next : (f : ℕ → ℕ) (n : ℕ) → sumTo f n + f n ≡ sumTo f (n + 1)
+unfolding sumBelow
+sum-next f n = ap (sumTo f) (sym (add-one n))
+
+-- two sums whose terms make up those of a third
+pub sum-add : (f g h : ℕ → ℕ) (n : ℕ) → ((i : ℕ) → i < n → f i + g i ≡ h i) → sumTo f n + sumTo g n ≡ sumTo h n
+unfolding sumBelow
+sum-add f g h zero e = refl
+sum-add f g h (suc n) e =
+    let before = sum-add f g h n (λ i l. e i (omega arith)) in
+    let last = e n (omega arith) in
+    omega arith
 
 -- a sum goes by what passes below n and by what that adds
 pub sum-same : (f g : ℕ → ℕ) (p q : ℕ → Bool) (n : ℕ) → ((i : ℕ) → i < n → cond (p i) (f i) 0 ≡ cond (q i) (g i) 0)
@@ -128,8 +171,18 @@ sum-least f p q (suc n) s =
     let h = sum-least f p q n (λ i l. s i (omega arith)) in
     by-test (p n) (λ t. rw (t, s n (omega arith) t) (omega arith)) (λ t. rw t (omega arith))
 
+-- where each adds 1 the sum is their number
+pub sum-ones : (n : ℕ) → sumTo (λ _. 1) n ≡ n
+unfolding sumBelow
+sum-ones zero = refl
+sum-ones (suc n) = let h = sum-ones n in omega arith
+
 -- where none passes the sum is 0
 pub sum-none : (f : ℕ → ℕ) (p : ℕ → Bool) (n : ℕ) → ((i : ℕ) → i < n → p i ≡ false) → sumBelow f p n ≡ 0
 unfolding sumBelow
 sum-none f p zero h = refl
 sum-none f p (suc n) h = rw (sum-none f p n (λ i l. h i (omega arith)), h n (omega arith))
+
+-- nor where each adds 0
+pub sum-zero : (f : ℕ → ℕ) (n : ℕ) → ((i : ℕ) → i < n → f i ≡ 0) → sumTo f n ≡ 0
+sum-zero f n h = sum-same f f (λ _. true) (λ _. false) n h ∙ sum-none f (λ _. false) n (λ _ _. refl)

@@ -52,6 +52,25 @@ module _ {f : ℕ → ℕ → ℕ} {before now : List ℕ} {i : ℕ} (c : Rewrit
       (λ t. c .done j (ltb-true j i t))
       (λ t. let o = ltb-false j i t in c .rest j o ∙ sym (past j (getD before j 0) (omega arith)))
 
+-- ---- a list that is filled from its front: f i is what comes to place i, whatever stood there
+
+module _ {A : Type 0} (f : ℕ → A) (d : A) where
+  pub record Filled (before now : List A) (i : ℕ) : Type 0 where
+    pub size : length now ≡ length before
+    pub filled : (j : ℕ) → j < i → getD now j d ≡ f j
+
+  pub fill-starts : (l : List A) → Filled l l 0
+  fill-starts l = record { size = refl; filled = λ j h. absurd (omega arith) }
+
+  pub fill-turns : {before now : List A} {i : ℕ} (c : Filled before now i) {v : A} → i < length before → v ≡ f i
+      → Filled before (set now i v) (i + 1)
+  fill-turns {before} {now} {i} c {v} h e = record {
+    size = length-set now i v ∙ c .size;
+    filled = λ j l. by-test (eqb j i)
+        (λ t. rw (eqb-true j i t) (getD-set-same now i v d (omega (arith, c .size)) ∙ e))
+        (λ t. let ne = eqb-false j i t in getD-set-other now i j v d ne ∙ c .filled j (omega arith));
+  }
+
 -- ---- a part that is lent from place a on
 
 -- a number of the part

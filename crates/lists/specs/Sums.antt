@@ -1,6 +1,6 @@
 -- Sums, counts and tests over lists: what the definitions of several crates are made of. Assumes nothing.
 use Prim.Native.Nat.{ℕ, zero, suc, _+_}
-use mathlib.Core.Bool.{Bool, false, cond, _||_}
+use mathlib.Core.Bool.{Bool, true, false, cond, _||_, _&&_}
 use mathlib.Core.List.{List, [], _∷_}
 
 -- the sum of what each element adds
@@ -32,7 +32,16 @@ unfoldable pub someBelow : (ℕ → Bool) → (n : ℕ) → Bool
 someBelow test zero = false
 someBelow test (suc i) = someBelow test i || test i
 
+-- every number below n passes a test
+unfoldable pub everyBelow : (ℕ → Bool) → (n : ℕ) → Bool
+everyBelow test zero = true
+everyBelow test (suc i) = everyBelow test i && test i
+
 -- the sum, over the numbers below n that pass a test, of what each adds
 unfoldable pub sumBelow : (ℕ → ℕ) → (ℕ → Bool) → (n : ℕ) → ℕ
 sumBelow f test zero = 0
 sumBelow f test (suc i) = sumBelow f test i + cond (test i) (f i) 0
+
+-- the sum, over the numbers below n, of what each adds
+abbrev pub sumTo : (ℕ → ℕ) → (n : ℕ) → ℕ
+sumTo f n = sumBelow f (λ _. true) n

@@ -1,0 +1,3 @@
+pub mod OrderLaws
+pub mod SignedLaws
+pub mod RowLaws
