@@ -244,6 +244,6 @@ module _ (test : GeoBox → Bool) where
         count-same (λ i. test (boxFrom (r .edges) (r .count) i)) (λ i. passesAt boxPasses (licenceOf (getD ps i freePlace))) (r .count)
         (λ i b. ap test (d .edges .each i b) ∙ place-passes (licenceOf (getD ps i freePlace)))
         ∙ count-total (λ p. passesAt boxPasses (licenceOf p)) freePlace ps (r .count)
-        (λ i b. none-passes (licenceOf (getD ps i freePlace)) (d .counts .past i b))
+        (λ i b. none-passes (licenceOf (getD ps i freePlace)) (d .counts .found .past i (omega (arith, d .counts .padded, b))))
         ∙ total-same (λ p. flag-passes (licenceOf p)) ps
         ∙ sym (in-force-total (λ x. flag (boxPasses x)) ps)

@@ -1,6 +1,6 @@
 -- Document 01, "Coverage and blocks": what a sum over an area's cells reads of the licences in force: how many have the area as their
 -- ground, and the boxes of the others. Assumes nothing.
-use Prim.Native.Nat.{ℕ, _+_, _*_, _-_, _≤_, _<_}
+use Prim.Native.Nat.{ℕ, _+_, _*_, _-_, _/_, _≤_, _<_}
 use mathlib.Core.Path.{_≡_}
 use mathlib.Core.Bool.{Bool, true, false, cond}
 use mathlib.Core.List.{List}
@@ -61,6 +61,13 @@ pub record LastBox (places : List FlatLicence) (n : ℕ) : Type 0 where
   pub past : (i : ℕ) → n ≤ i → passesAt hasBox (licenceOf (getD places i freePlace)) ≡ false
   pub last : 0 < n → passesAt hasBox (licenceOf (getD places (n - 1) freePlace)) ≡ true
 
+-- so many places as there are up to that one, and as many more as make up a multiple of 8
+pub record PaddedTo8 (places : List FlatLicence) (n : ℕ) : Type 0 where
+  pub last : ℕ
+  pub found : LastBox places last
+  pub padded : n ≡ (last + 7) / 8 * 8
+  pub few : n ≤ 64
+
 -- the edges of the boxes at the first n places, and 0 past them
 pub record EdgesDone (places : List FlatLicence) (n : ℕ) (edges : List ℤ) : Type 0 where
   pub size : length edges ≡ 256
@@ -69,5 +76,5 @@ pub record EdgesDone (places : List FlatLicence) (n : ℕ) (edges : List ℤ) : 
 
 -- what `boxes` hands out of the places
 pub record BoxesDone (places : List FlatLicence) (r : Boxes) : Type 0 where
-  pub counts : LastBox places (r .count)
+  pub counts : PaddedTo8 places (r .count)
   pub edges : EdgesDone places (r .count) (r .edges)

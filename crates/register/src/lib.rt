@@ -84,8 +84,8 @@ pub struct Cancelled {
     pub answer: CancelAnswer,
 }
 
-// The boxes of the licences in force, one for each of the first count places: the souths at 0, the norths at count, the wests at
-// 2 * count and the easts at 3 * count. A place without a box in force has one with all edges 0, which covers nothing.
+// The boxes of the licences in force, one for each of the first count places, a multiple of 8: the souths at 0, the norths at count,
+// the wests at 2 * count and the easts at 3 * count. A place without a box in force has one with all edges 0, which covers nothing.
 pub struct Boxes {
     pub count: usize,
     pub edges: [i32; 256],
@@ -310,11 +310,12 @@ impl Register {
         count
     }
 
-    // The boxes of the licences in force, up to the last place that has one, so that few licences cost few tests for a cell.
+    // The boxes of the licences in force, up to the last place that has one, so that few licences cost few tests for a cell. The loop
+    // over the boxes at a cell takes eight at a time, so boxes that cover nothing make up a multiple of 8 and it has none left over.
     pub fn boxes(self) -> Boxes
         ensures { λ r. ⌜ BoxesDone (self .places) r ⌝ }
     {
-        let count = self.last_box();
+        let count = (self.last_box() + 7) / 8 * 8;
         let edges = self.edges(count);
         Boxes { count, edges }
     }
