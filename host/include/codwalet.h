@@ -24,9 +24,10 @@ extern "C" {
 
 /*
  * The version of this interface. It is another number wherever a struct, a function or a field's meaning is not what it was;
- * codwalet_version() answers the archive's.
+ * codwalet_version() answers the archive's. Version 2 has cells in codwalet_covered and codwalet_given, and so in
+ * codwalet_proposal. All other structs are as in version 1, so a register that was kept in version 1 is read as it is.
  */
-#define CODWALET_VERSION 1
+#define CODWALET_VERSION 2
 
 /* Limits: how many there are at most, and the largest that a field may be. */
 #define CODWALET_LIMIT 64                     /* Licences in force: places of a register. */
@@ -122,9 +123,13 @@ typedef struct {
     uint64_t length;              /* to the end of the last cell */
 } codwalet_area;
 
-/* The people that licences in force cover in an area, 16 bytes: a cell under two licences counts twice. */
+/*
+ * The people and the cells that licences in force cover in an area, 24 bytes. A cell under two licences counts twice, with its people;
+ * a cell without people counts among the cells.
+ */
 typedef struct {
     uint64_t people;
+    uint64_t cells;
     uint32_t refusal;             /* 0 to 5 */
     uint32_t unused;
 } codwalet_covered;
@@ -138,15 +143,16 @@ typedef struct {
     uint32_t unused;
 } codwalet_held;
 
-/* What a proposal gives an area, 24 bytes. */
+/* What a proposal gives an area, 32 bytes. */
 typedef struct {
     uint32_t number;
     uint32_t gets;                /* CODWALET_GETS_.. */
     uint64_t blocks;              /* whole blocks that the area has without the proposal */
     uint64_t share;               /* in weighted MHz-pops, where it gets a share */
+    uint64_t cells;               /* cells that licences in force cover, each once for each licence */
 } codwalet_given;
 
-/* A proposal, 808 bytes. */
+/* A proposal, 1,064 bytes. */
 typedef struct {
     uint32_t refusal;             /* 0 to 5, 12 */
     uint32_t kind;                /* 1 to 3 */
@@ -185,7 +191,7 @@ uint32_t codwalet_check_map(const uint8_t *map, size_t map_length);
 /* The area with a number. */
 codwalet_area codwalet_look_up(const uint8_t *map, size_t map_length, uint16_t number);
 
-/* The people covered in the area with a number: 0 if the map lacks it. */
+/* The people and the cells covered in the area with a number: zeros if the map lacks it. */
 codwalet_covered codwalet_coverage(const uint8_t *map, size_t map_length, codwalet_register current, uint16_t number);
 
 /* The blocks of the area with a number: zeros if the map lacks it. */

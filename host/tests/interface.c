@@ -38,10 +38,11 @@ FIELD(codwalet_area, population, 24, 8);
 FIELD(codwalet_area, offset, 32, 8);
 FIELD(codwalet_area, length, 40, 8);
 
-SIZE(codwalet_covered, 16);
+SIZE(codwalet_covered, 24);
 FIELD(codwalet_covered, people, 0, 8);
-FIELD(codwalet_covered, refusal, 8, 4);
-FIELD(codwalet_covered, unused, 12, 4);
+FIELD(codwalet_covered, cells, 8, 8);
+FIELD(codwalet_covered, refusal, 16, 4);
+FIELD(codwalet_covered, unused, 20, 4);
 
 SIZE(codwalet_held, 32);
 FIELD(codwalet_held, whole, 0, 8);
@@ -50,20 +51,21 @@ FIELD(codwalet_held, size, 16, 8);
 FIELD(codwalet_held, refusal, 24, 4);
 FIELD(codwalet_held, unused, 28, 4);
 
-SIZE(codwalet_given, 24);
+SIZE(codwalet_given, 32);
 FIELD(codwalet_given, number, 0, 4);
 FIELD(codwalet_given, gets, 4, 4);
 FIELD(codwalet_given, blocks, 8, 8);
 FIELD(codwalet_given, share, 16, 8);
+FIELD(codwalet_given, cells, 24, 8);
 
-SIZE(codwalet_proposal, 808);
+SIZE(codwalet_proposal, 1064);
 FIELD(codwalet_proposal, refusal, 0, 4);
 FIELD(codwalet_proposal, kind, 4, 4);
 FIELD(codwalet_proposal, tied, 8, 8);
 FIELD(codwalet_proposal, count, 16, 8);
 FIELD(codwalet_proposal, target, 24, 8);
 FIELD(codwalet_proposal, white_space, 32, 8);
-FIELD(codwalet_proposal, areas, 40, 32 * 24);
+FIELD(codwalet_proposal, areas, 40, 32 * 32);
 
 SIZE(codwalet_outline, 16);
 FIELD(codwalet_outline, refusal, 0, 4);
@@ -438,7 +440,7 @@ static const struct {
     {"population above 40,000,000", CODWALET_MAP_POPULATION, LAST_CELL, 1, 4, 0},
 };
 
-/* Every function that reads a map refuses it by the same number, with nothing else in its answer. */
+/* Every function that reads a map refuses it by the same number, with nothing else in its answer: no people and no cells. */
 static void refused_map(const map_bytes *map, uint32_t refusal)
 {
     codwalet_register current = with(codwalet_empty(), area_licence(1, 3));
@@ -475,14 +477,24 @@ static void refused_maps(void)
 static const struct {
     const char *name;
     int32_t south, north, west, east;
-    uint64_t people;
+    uint64_t people, cells;
 } edges[] = {
-    {"box around the point", -1, 1, -301, -299, 6},
-    {"south edge on the point", 0, 1, -301, -299, 6},
-    {"north edge on the point", -1, 0, -301, -299, 0},
-    {"west edge on the point", -1, 1, -300, -299, 6},
-    {"east edge on the point", -1, 1, -301, -300, 0},
+    {"box around the point", -1, 1, -301, -299, 6, 1},
+    {"south edge on the point", 0, 1, -301, -299, 6, 1},
+    {"north edge on the point", -1, 0, -301, -299, 0, 0},
+    {"west edge on the point", -1, 1, -300, -299, 6, 1},
+    {"east edge on the point", -1, 1, -301, -300, 0, 0},
 };
+
+/* The coverage of an area, every byte of it. */
+static void covered_is(const map_bytes *map, codwalet_register current, uint16_t number, uint64_t people, uint64_t cells)
+{
+    codwalet_covered due = {.people = people, .cells = cells};
+    codwalet_covered covered = codwalet_coverage(map->bytes, map->length, current, number);
+    EQUAL(covered.people, people);
+    EQUAL(covered.cells, cells);
+    SAME(covered, due);
+}
 
 static void coverage_of_boxes(void)
 {
@@ -493,9 +505,7 @@ static void coverage_of_boxes(void)
     for (size_t i = 0; i < sizeof edges / sizeof edges[0]; i++) {
         checked = edges[i].name;
         codwalet_licence box = box_licence(7, edges[i].south, edges[i].north, edges[i].west, edges[i].east);
-        codwalet_covered due = {.people = edges[i].people};
-        codwalet_covered covered = codwalet_coverage(map.bytes, map.length, with(codwalet_empty(), box), 1);
-        SAME(covered, due);
+        covered_is(&map, with(codwalet_empty(), box), 1, edges[i].people, edges[i].cells);
     }
 }
 
@@ -507,24 +517,98 @@ static void coverage_in_force(void)
     map_bytes map;
     begin_map(&map, 1);
     add_area(&map, 8, 1, 1, 2, people, 0);
-    EQUAL(codwalet_coverage(map.bytes, map.length, current, 8).people, 0);
+    covered_is(&map, current, 8, 0, 0);
     current = with(current, area_licence(1, 8));
-    EQUAL(codwalet_coverage(map.bytes, map.length, current, 8).people, 10);
+    covered_is(&map, current, 8, 10, 2);
     current = with(current, box_licence(2, 0, 1, 0, STEP));
-    EQUAL(codwalet_coverage(map.bytes, map.length, current, 8).people, 16);
+    covered_is(&map, current, 8, 16, 3);
     current = with(current, area_licence(3, 9));
-    EQUAL(codwalet_coverage(map.bytes, map.length, current, 8).people, 16);
+    covered_is(&map, current, 8, 16, 3);
     current = codwalet_cancel(current, 1).next;
-    EQUAL(codwalet_coverage(map.bytes, map.length, current, 8).people, 6);
+    covered_is(&map, current, 8, 6, 1);
     current = with(current, area_licence(1, 8));
-    EQUAL(codwalet_coverage(map.bytes, map.length, current, 8).people, 16);
+    covered_is(&map, current, 8, 16, 3);
 
-    codwalet_covered none = {0};
-    codwalet_covered covered = codwalet_coverage(map.bytes, map.length, current, 9);
-    SAME(covered, none);
+    covered_is(&map, current, 9, 0, 0);
     codwalet_held no_blocks = {0};
     codwalet_held held = codwalet_blocks(map.bytes, map.length, current, 9);
     SAME(held, no_blocks);
+}
+
+/* A map, and licences over it. */
+typedef struct {
+    map_bytes map;
+    codwalet_register current;
+} holdings;
+
+/* Cells: in a row from west to east, area 5 has two with people, one without and a gap, area 6 has two, and area 7 has one. */
+
+static holdings hold_cells(void)
+{
+    const uint32_t first[4] = {50, 0, NO_CELL, 50}, second[2] = {60, 40}, third[1] = {9};
+    holdings h;
+    h.current = codwalet_empty();
+    begin_map(&h.map, 3);
+    add_area(&h.map, 5, 1, 1, 4, first, 0);
+    add_area(&h.map, 6, 1, 1, 2, second, 4 * STEP);
+    add_area(&h.map, 7, 1, 1, 1, third, 6 * STEP);
+    return h;
+}
+
+/* The cells of the three areas, by coverage and in the proposal. */
+static void cells_are(const holdings *h, uint64_t first, uint64_t second, uint64_t third)
+{
+    const uint64_t due[3] = {first, second, third};
+    codwalet_proposal proposal = codwalet_propose(h->map.bytes, h->map.length, h->current, 0);
+    EQUAL(proposal.refusal, CODWALET_ACCEPTED);
+    EQUAL(proposal.count, 3);
+    for (uint16_t i = 0; i < 3; i++) {
+        EQUAL(codwalet_coverage(h->map.bytes, h->map.length, h->current, (uint16_t)(5 + i)).cells, due[i]);
+        EQUAL(proposal.areas[i].number, 5 + i);
+        EQUAL(proposal.areas[i].cells, due[i]);
+    }
+    for (size_t i = 3; i < CODWALET_AREAS; i++)
+        EQUAL(proposal.areas[i].cells, 0);
+}
+
+/* A cell counts once for each licence, with people or without; a place without a cell counts for none. */
+static void cells_by_hand(void)
+{
+    holdings h = hold_cells();
+    cells_are(&h, 0, 0, 0);
+    h.current = with(h.current, area_licence(1, 5));
+    cells_are(&h, 3, 0, 0);
+    h.current = with(h.current, box_licence(2, 0, 1, STEP, 2 * STEP)); /* the cell without people */
+    cells_are(&h, 4, 0, 0);
+    h.current = with(h.current, box_licence(3, 0, 1, 2 * STEP, 3 * STEP)); /* the gap */
+    cells_are(&h, 4, 0, 0);
+    h.current = with(h.current, area_licence(4, 5));
+    cells_are(&h, 7, 0, 0);
+    h.current = with(h.current, box_licence(5, 0, 1, 2 * STEP, 5 * STEP)); /* a cell of each of two areas */
+    cells_are(&h, 8, 1, 0);
+    h.current = codwalet_cancel(h.current, 1).next;
+    cells_are(&h, 5, 1, 0);
+    h.current = with(h.current, box_licence(1, -1, 1, -STEP, 10 * STEP)); /* all areas */
+    cells_are(&h, 8, 3, 1);
+    covered_is(&h.map, h.current, 4, 0, 0);
+    covered_is(&h.map, h.current, 8, 0, 0);
+    for (size_t i = 0; i < CODWALET_LIMIT; i++) /* free places, whatever they hold */
+        h.current.places[i].call_sign = 0;
+    cells_are(&h, 0, 0, 0);
+}
+
+/* Cells decide nothing: with one more, without people, a proposal is the same but for that count. */
+static void cells_beside_people(void)
+{
+    holdings h = hold_cells();
+    h.current = with(with(h.current, area_licence(1, 5)), area_licence(2, 6));
+    codwalet_proposal before = codwalet_propose(h.map.bytes, h.map.length, h.current, 0);
+    EQUAL(before.areas[0].cells, 3);
+    h.current = with(h.current, box_licence(3, 0, 1, STEP, 2 * STEP));
+    codwalet_proposal after = codwalet_propose(h.map.bytes, h.map.length, h.current, 0);
+    EQUAL(after.areas[0].cells, 4);
+    before.areas[0].cells = 4;
+    SAME(after, before);
 }
 
 /* Holdings: areas 1, 2, .. of two cells. Licences for the area cover all of it, and a box its first cell. */
@@ -532,11 +616,6 @@ static void coverage_in_force(void)
 typedef struct {
     uint32_t weight, population, covered;
 } area_held;
-
-typedef struct {
-    map_bytes map;
-    codwalet_register current;
-} holdings;
 
 static void hold_area(holdings *h, uint32_t number, area_held area)
 {
@@ -564,16 +643,17 @@ static holdings hold(const area_held *areas, size_t count)
 static const struct {
     const char *name;
     area_held area;
+    uint64_t cells;
     uint64_t whole, value, size;
 } blocks_due[] = {
-    {"no licence", {1, 100, 0}, 0, 0, 0},
-    {"one person in part of a block", {1, 100, 1}, 0, 50, 10000},
-    {"blocks of holding 1", {1, 100, 198}, 1, 0, 0},
-    {"blocks of holding 2", {1, 100, 197}, 0, 9850, 10000},
-    {"two whole licences", {1, 100, 200}, 1, 0, 0},
-    {"a block and a part", {1, 100, 301}, 1, 5050, 10000},
-    {"a block and 99 in the hundred", {1, 100, 398}, 2, 0, 0},
-    {"weight 3", {3, 120, 200}, 0, 30000, 36000},
+    {"no licence", {1, 100, 0}, 0, 0, 0, 0},
+    {"one person in part of a block", {1, 100, 1}, 1, 0, 50, 10000},
+    {"blocks of holding 1", {1, 100, 198}, 3, 1, 0, 0},
+    {"blocks of holding 2", {1, 100, 197}, 3, 0, 9850, 10000},
+    {"two whole licences", {1, 100, 200}, 4, 1, 0, 0},
+    {"a block and a part", {1, 100, 301}, 7, 1, 5050, 10000},
+    {"a block and 99 in the hundred", {1, 100, 398}, 7, 2, 0, 0},
+    {"weight 3", {3, 120, 200}, 3, 0, 30000, 36000},
 };
 
 static void blocks_of_an_area(void)
@@ -581,7 +661,7 @@ static void blocks_of_an_area(void)
     for (size_t i = 0; i < sizeof blocks_due / sizeof blocks_due[0]; i++) {
         checked = blocks_due[i].name;
         holdings h = hold(&blocks_due[i].area, 1);
-        EQUAL(codwalet_coverage(h.map.bytes, h.map.length, h.current, 1).people, blocks_due[i].area.covered);
+        covered_is(&h.map, h.current, 1, blocks_due[i].area.covered, blocks_due[i].cells);
         codwalet_held due = {.whole = blocks_due[i].whole, .value = blocks_due[i].value, .size = blocks_due[i].size};
         codwalet_held held = codwalet_blocks(h.map.bytes, h.map.length, h.current, 1);
         SAME(held, due);
@@ -600,21 +680,24 @@ static const struct {
     area_held areas[4]; /* weight, population, covered */
     uint32_t kind;
     uint64_t target, white_space, tied;
-    codwalet_given given[4]; /* number, gets, blocks, share */
+    codwalet_given given[4]; /* number, gets, blocks, share, cells */
 } proposals[] = {
-    {"holding 1", 0, 1, {{1, 100, 198}}, 1, 0, 0, 0, {{1, NOTHING, 1, 0}}},
-    {"holding 2", 0, 1, {{1, 100, 197}}, 2, 9850, 150, 1, {{1, ROUNDED, 0, 0}}},
-    {"holding 3", 0, 1, {{1, 100, 180}}, 2, 9000, 1000, 1, {{1, ROUNDED, 0, 0}}},
-    {"holding 4", 0, 1, {{1, 100, 179}}, 3, 8950, 1050, 1, {{1, SHARE, 0, 8950}}},
-    {"holding 5", 0, 2, {{1, 100, 100}, {1, 100, 100}}, 1, 10000, 0, 0, {{1, WHOLE, 0, 0}, {2, NOTHING, 0, 0}}},
-    {"holding 6", 0, 2, {{1, 100, 100}, {1, 40, 40}}, 3, 7000, 3000, 1, {{1, SHARE, 0, 7000}, {2, NOTHING, 0, 0}}},
+    {"holding 1", 0, 1, {{1, 100, 198}}, 1, 0, 0, 0, {{1, NOTHING, 1, 0, 3}}},
+    {"holding 2", 0, 1, {{1, 100, 197}}, 2, 9850, 150, 1, {{1, ROUNDED, 0, 0, 3}}},
+    {"holding 3", 0, 1, {{1, 100, 180}}, 2, 9000, 1000, 1, {{1, ROUNDED, 0, 0, 3}}},
+    {"holding 4", 0, 1, {{1, 100, 179}}, 3, 8950, 1050, 1, {{1, SHARE, 0, 8950, 3}}},
+    {"holding 5", 0, 2, {{1, 100, 100}, {1, 100, 100}}, 1, 10000, 0, 0,
+     {{1, WHOLE, 0, 0, 2}, {2, NOTHING, 0, 0, 2}}},
+    {"holding 6", 0, 2, {{1, 100, 100}, {1, 40, 40}}, 3, 7000, 3000, 1,
+     {{1, SHARE, 0, 7000, 2}, {2, NOTHING, 0, 0, 2}}},
     {"holding 7", 0, 4, {{1, 1000, 1000}, {1, 330, 300}, {1, 330, 300}, {1, 330, 300}}, 2, 95000, 5000, 1,
-     {{1, ROUNDED, 0, 0}, {2, NOTHING, 0, 0}, {3, NOTHING, 0, 0}, {4, NOTHING, 0, 0}}},
-    {"holding 8", 0, 2, {{1, 100, 180}, {3, 120, 200}}, 3, 39000, 7000, 1, {{1, WHOLE, 0, 0}, {2, SHARE, 0, 29000}}},
+     {{1, ROUNDED, 0, 0, 2}, {2, NOTHING, 0, 0, 1}, {3, NOTHING, 0, 0, 1}, {4, NOTHING, 0, 0, 1}}},
+    {"holding 8", 0, 2, {{1, 100, 180}, {3, 120, 200}}, 3, 39000, 7000, 1,
+     {{1, WHOLE, 0, 0, 3}, {2, SHARE, 0, 29000, 3}}},
     {"holding 9, draw 0", 0, 2, {{1, 100, 150}, {1, 100, 150}}, 3, 15000, 5000, 2,
-     {{1, SHARE, 0, 5000}, {2, WHOLE, 0, 0}}},
+     {{1, SHARE, 0, 5000, 3}, {2, WHOLE, 0, 0, 3}}},
     {"holding 9, draw 3", 3, 2, {{1, 100, 150}, {1, 100, 150}}, 3, 15000, 5000, 2,
-     {{1, WHOLE, 0, 0}, {2, SHARE, 0, 5000}}},
+     {{1, WHOLE, 0, 0, 3}, {2, SHARE, 0, 5000, 3}}},
 };
 
 static void proposals_by_hand(void)
@@ -775,6 +858,8 @@ static const struct {
     {"refused maps", refused_maps},
     {"coverage of boxes", coverage_of_boxes},
     {"coverage in force", coverage_in_force},
+    {"cells by hand", cells_by_hand},
+    {"cells beside people", cells_beside_people},
     {"blocks of an area", blocks_of_an_area},
     {"proposals by hand", proposals_by_hand},
     {"many partial areas", many_partial_areas},

@@ -6,6 +6,7 @@ use lib.ListN.{length, replicate}
 use Rattle.map.specs.declared.Area as found
 use Rattle.map.specs.Answers.{LookedUp, refused, lacking, has}
 use Rattle.coverage.specs.declared.AreaBlocks.{AreaBlocks}
+use Rattle.coverage.specs.declared.CoverageSums.{CoverageSums}
 use Rattle.coverage.specs.Answers as coverage
 use Rattle.proposal.specs.Answer as proposal
 use Rattle.proposal.specs.Answer.{Gets, getsNothing, getsWhole, getsRoundedUp, getsShare}
@@ -19,7 +20,7 @@ use Rattle.abi.specs.declared.Outline.{Outline}
 
 -- the version of the interface: another number wherever a struct, a function or a field's meaning is not what it was
 abbrev pub version : ℕ
-version = 1
+version = 2
 
 -- ---- "When an area is looked up by its number"
 
@@ -44,11 +45,11 @@ flatFound (refused n) = noArea n
 flatFound lacking = noArea 0
 flatFound (has a) = areaFound a
 
--- ---- "Coverage and blocks"
+-- ---- "Coverage and blocks"; document 02, Paper 1: "Coverage in an area now gives two numbers"
 
-abbrev pub flatCovered : coverage.Answer ℕ → Covered
-flatCovered (coverage.refused n) = record { people = 0; refusal = n; unused = 0 }
-flatCovered (coverage.answers c) = record { people = c; refusal = 0; unused = 0 }
+abbrev pub flatCovered : coverage.Answer CoverageSums → Covered
+flatCovered (coverage.refused n) = record { people = 0; cells = 0; refusal = n; unused = 0 }
+flatCovered (coverage.answers c) = record { people = c .people .0; cells = c .cells .0; refusal = 0; unused = 0 }
 
 abbrev pub flatHeld : coverage.Answer AreaBlocks → Held
 flatHeld (coverage.refused n) = record { whole = 0; value = 0; size = 0; refusal = n; unused = 0 }
@@ -68,13 +69,19 @@ getsAmount getsWhole = 0
 getsAmount getsRoundedUp = 0
 getsAmount (getsShare amount) = amount
 
--- "for each map area its whole blocks and what it gets"
+-- "for each map area its whole blocks and what it gets"; document 02, Paper 1: "The proposal shows the sum of cells for each map area"
 abbrev pub flatGiven : proposal.Given → Given
-flatGiven g = record { number = g .number; gets = getsNumber (g .gets); blocks = g .blocks; share = getsAmount (g .gets) }
+flatGiven g = record {
+  number = g .number;
+  gets = getsNumber (g .gets);
+  blocks = g .blocks;
+  share = getsAmount (g .gets);
+  cells = g .cells;
+}
 
 -- what stands at an entry past the map's areas
 abbrev pub noneGiven : Given
-noneGiven = record { number = 0; gets = 0; blocks = 0; share = 0 }
+noneGiven = record { number = 0; gets = 0; blocks = 0; share = 0; cells = 0 }
 
 -- "The answer: kind, T, white space, tied count, and for each map area ..", in 32 entries
 unfoldable pub flatProposal : proposal.Proposal → FlatProposal

@@ -22,7 +22,8 @@ ghost use Rattle.proposal.specs.Answer.{proposalOn};
 ghost use Rattle.proposal.specs.Contracts.{getsMeans, areaMeans};
 ghost use Rattle.footprint.specs.Footprint.{footprintOn};
 ghost use Rattle.footprint.specs.Contracts.{means};
-ghost use Rattle.abi.specs.Flat.{version, noArea, flatCovered, flatHeld, getsNumber, getsAmount, flatGiven, flatProposal, outlineMeans};
+ghost use Rattle.abi.specs.Flat.{version, noArea, flatCovered, flatHeld, getsNumber, getsAmount, flatGiven, flatProposal};
+ghost use Rattle.abi.specs.Flat.{outlineMeans};
 ghost use Rattle.abi.specs.Contracts.{FoundDone, OutlineDone};
 
 // An area of a map: its head, its population, and where its rows stand. All 0 where the map is refused or lacks the number.
@@ -37,10 +38,11 @@ pub struct FoundArea {
     pub length: u64,
 }
 
-// The people that licences in force cover in an area.
+// The people and the cells that licences in force cover in an area.
 #[repr(C)]
 pub struct Covered {
     pub people: u64,
+    pub cells: u64,
     pub refusal: u32,
     pub unused: u32,
 }
@@ -55,13 +57,14 @@ pub struct Held {
     pub unused: u32,
 }
 
-// What a proposal gives an area. Gets is 0 for nothing, 1 for whole, 2 for rounded up and 3 for a share.
+// What a proposal gives an area, and its sum of cells. Gets is 0 for nothing, 1 for whole, 2 for rounded up and 3 for a share.
 #[repr(C)]
 pub struct Given {
     pub number: u32,
     pub gets: u32,
     pub blocks: u64,
     pub share: u64,
+    pub cells: u64,
 }
 
 // A proposal. The map's areas are the first count of areas, and the others are all 0.
@@ -89,7 +92,7 @@ pub struct Outline {
 pub extern "C" fn codwalet_version() -> u32
     ensures { λ r. ⌜ r ≡ version ⌝ }
 {
-    1
+    2
 }
 
 // The register with no licence in force.
@@ -162,7 +165,7 @@ fn not_found(refusal: u32) -> FoundArea
     }
 }
 
-// The people that licences in force cover in the area with a number.
+// The people and the cells that licences in force cover in the area with a number.
 #[no_mangle]
 pub extern "C" fn codwalet_coverage(map: &[u8], current: Register, number: u16) -> Covered
     ensures { λ r. ⌜ r ≡ flatCovered (coverageAt number (inForce (current .places)) (readMap (now (map .entry)))) ⌝ }
@@ -170,14 +173,20 @@ pub extern "C" fn codwalet_coverage(map: &[u8], current: Register, number: u16) 
     match coverage::coverage(map, current, number) {
         CoverageAnswer::Refused(f) => Covered {
             people: 0,
+            cells: 0,
             refusal: f.number(),
             unused: 0,
         },
-        CoverageAnswer::Covered(people) => Covered {
-            people: people.0,
-            refusal: 0,
-            unused: 0,
-        },
+        CoverageAnswer::Covered(sums) => {
+            let people = sums.people;
+            let cells = sums.cells;
+            Covered {
+                people: people.0,
+                cells: cells.0,
+                refusal: 0,
+                unused: 0,
+            }
+        }
     }
 }
 
@@ -250,6 +259,7 @@ impl Given {
         gets: 0,
         blocks: 0,
         share: 0,
+        cells: 0,
     };
 
     // What a proposal gives an area.
@@ -257,11 +267,13 @@ impl Given {
         ensures { λ r. ⌜ r ≡ flatGiven (areaMeans a) ⌝ }
     {
         let gets = a.gets;
+        let sum = a.cells;
         Given {
             number: a.number as u32,
             gets: gets_number(gets),
             blocks: a.blocks,
             share: gets_share(gets),
+            cells: sum.0,
         }
     }
 }

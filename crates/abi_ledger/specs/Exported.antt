@@ -6,6 +6,8 @@ use Rattle.register.specs.declared.Licence.{Licence}
 use Rattle.register.specs.declared.FlatLicence.{FlatLicence}
 use Rattle.register.specs.declared.Register.{Register}
 use Rattle.register.specs.Licences.{licenceOf}
+use Rattle.proposal.specs.Answer.{AreaCells}
+use Rattle.abi.specs.declared.Given.{Given}
 use Rattle.abi.specs.Flat.{flatProposal, outlineMeans}
 use Rattle.abi.proofs.codwalet_empty.Reads as empty-reads
 use Rattle.abi.proofs.codwalet_grant.Reads as grant-reads
@@ -48,3 +50,7 @@ function (footprint draw mask table) = outlining draw mask table outlineMeans fo
 -- the exported functions; an empty register is `codwalet_empty()`
 abbrev pub exported : Interface
 exported = record { EmptyAsks = empty-reads.Pre tt tt; Empties = λ r. empty-reads.Post tt tt r tt; function = function }
+
+-- document 02, Paper 1: "The proposal shows the sum of cells for each map area": an area's number with the sum that its entry shows
+abbrev pub cellsOut : Given → AreaCells
+cellsOut g = record { number = g .number; cells = g .cells }

@@ -1,10 +1,10 @@
--- c of an area: the walk that counts each cell as often as it is covered gives the sum over the licences. Assumes nothing.
-use Prim.Native.Nat.{ℕ, _+_, _*_, _/_, _<_, zero-le}
-use mathlib.Core.Path.{_≡_, refl, sym, ap, _∙_, fun-ext}
+-- c and the sum of cells of an area: what the walk counts gives the sums over the licences. Assumes nothing.
+use Prim.Native.Nat.{ℕ, _+_, _*_, _/_, _≤_, _<_, zero-le}
+use mathlib.Core.Path.{_≡_, refl, sym, ap, _∙_, subst, fun-ext}
 use mathlib.Core.Bool.{Bool, true, false, cond}
 use mathlib.Core.List.{List}
 use native.Mathlib.Omega.{arith}
-use native.Mathlib.Nat.{zero-add, add-zero, mul-one, mul-zero, mul-div-right}
+use native.Mathlib.Nat.{zero-add, add-zero, mul-one, one-mul, mul-zero, mul-comm, mul-add, mul-le-mul, mul-div-right}
 use borrow.Author.Tests.{le-leb, le-ltb}
 use lib.IntN.{ℤ, pos, negsuc}
 use lib.ListN.{length, getD, take}
@@ -12,10 +12,17 @@ use lib.Seq.{length-take-le, getD-take}
 use lib.Dec.{ltb}
 use Rattle.lists.specs.Sums.{total, any, flag, count}
 use Rattle.lists.proofs.SumLaws.{any-total, total-same, total-zero, total-add, total-scale, count-same, exchange}
+use Rattle.units.specs.Sums.{capped}
+use Rattle.units.proofs.Laws.{exact}
 use Rattle.map.specs.declared.Cell.{Cell}
-use Rattle.map.specs.Reading.{Read, bad, good, mapRead}
-use Rattle.map.specs.Format.{Place, gap, cell}
-use Rattle.map.specs.Counting.{boxCovers, boxAt, boxesOver, placePeople, gridPeople}
+use Rattle.map.specs.declared.parts.Counts.{Counts}
+use Rattle.map.specs.declared.parts.CountedArea.{CountedArea}
+use Rattle.map.specs.Format.{Place, gap, cell, Area, peopleAt, population}
+use Rattle.boxes.specs.Boxes.{boxCovers, boxAt, boxesOver}
+use Rattle.map.specs.Counting.{cellsAt, boxedPeople, boxedCells, gridCounts, Small}
+use Rattle.map.specs.Answers.{countedArea}
+use Rattle.map.specs.Accepted.{AreaHolds}
+use Rattle.map.proofs.CountLaws.{area-small}
 use Rattle.register.specs.declared.GeoBox.{GeoBox}
 use Rattle.register.specs.declared.Ground.{Ground}
 use Rattle.register.specs.declared.Ground.the-variants as ground
@@ -23,10 +30,12 @@ use Rattle.register.specs.declared.Licence.{Licence}
 use Rattle.register.specs.declared.FlatLicence.{FlatLicence}
 use Rattle.register.specs.declared.Boxes.{Boxes}
 use Rattle.register.specs.Licences.{inForce}
-use Rattle.register.specs.Grounds.{isArea, isBox, names, noBox, boxFrom, BoxesDone}
+use Rattle.register.specs.Grounds.{isArea, isBox, noBox, boxFrom, BoxesDone}
 use Rattle.register.proofs.GroundLaws.{boxes-total}
-use Rattle.coverage.specs.Cover.{covers, peopleUnder}
-use Rattle.coverage.specs.Limits.{coveredIn}
+use Rattle.coverage.specs.declared.Holding.{Holding}
+use Rattle.coverage.specs.declared.CoverageSums.{CoverageSums}
+use Rattle.coverage.specs.Cover.{covers, peopleUnder, cellUnder, coverageSums, holdingOf}
+use Rattle.coverage.specs.Limits.{namingOf, sumsBy, holdingBy}
 
 -- ---- one licence over one cell
 
@@ -67,7 +76,7 @@ module _
     (d : BoxesDone ps b)
     (number : ℕ)
     {always : ℕ}
-    (named : always ≡ total (λ l. flag (names number l)) (inForce ps))
+    (named : always ≡ namingOf (inForce ps) number)
   where
     abbrev ls : List Licence
     ls = inForce ps
@@ -108,29 +117,137 @@ module _
         ltb 0 (always + boxesOver edges (c .latitude) (c .longitude)) ≡ any (λ l. covers (l .ground) number c) ls
     covered-some c = ap (ltb 0) (times-covered c) ∙ sym (any-total (λ l. covers (l .ground) number c) ls)
 
-    -- a place counts for each licence that covers it
-    at-place : (p : Place) → placePeople always edges p ≡ total (λ l. peopleUnder l number p) ls
-    unfolding placePeople
-    at-place gap = sym (total-zero (λ l. refl) ls)
-    at-place (cell c) =
-        ap (λ (n : ℕ). c .people * n) (times-covered c)
-        ∙ sym (total-scale (c .people) (λ l. flag (covers (l .ground) number c)) ls)
-        ∙ total-same (λ l. if-covered (c .people) (covers (l .ground) number c)) ls
+    -- what a cell weighs, `w` of it: its people, or one cell. A place counts once for each licence that covers it
+    module _ (w : Cell → ℕ) where
+      -- what stands at a place, what boxes add there, and what a licence adds there
+      abbrev weight : Place → ℕ
+      weight gap = 0
+      weight (cell c) = w c
 
-    -- the walk over the rows gives the sum over the licences
-    pub covered-is : (grid : List (List Place)) → gridPeople always edges grid ≡ total (λ l. total (total (peopleUnder l number)) grid) ls
-    covered-is grid =
-        ap (λ (f : Place → ℕ). total (total f) grid) (fun-ext at-place)
-        ∙ total-same (λ row. exchange (λ p l. peopleUnder l number p) row ls) grid
-        ∙ exchange (λ row l. total (peopleUnder l number) row) grid ls
+      abbrev boxed : Place → ℕ
+      boxed gap = 0
+      boxed (cell c) = w c * boxesOver edges (c .latitude) (c .longitude)
 
-    -- by what the walk reads
-    pub walk-gives : {p e : ℕ} (r : Read (List (List Place))) → good p e ≡ mapRead (gridPeople always edges) r → p ≡ coveredIn ls number r
-    walk-gives (bad f) q = cc
-    walk-gives {p} (good grid m) q =
-        let qp : p ≡ gridPeople always edges grid = cc in
-        qp ∙ covered-is grid
+      abbrev under : Licence → Place → ℕ
+      under l gap = 0
+      under l (cell c) = cond (covers (l .ground) number c) (w c) 0
 
-    pub walk-stops : {f : ℕ} (r : Read (List (List Place))) → bad f ≡ mapRead (gridPeople always edges) r → 0 ≡ coveredIn ls number r
-    walk-stops (bad x) q = refl
-    walk-stops (good grid m) q = cc
+      at-place : (p : Place) → always * weight p + boxed p ≡ total (λ l. under l p) ls
+      at-place gap = omega (arith, mul-zero always) ∙ sym (total-zero (λ l. refl) ls)
+      at-place (cell c) =
+          let n = boxesOver edges (c .latitude) (c .longitude) in
+          ap (λ (k : ℕ). k + w c * n) (mul-comm always (w c))
+          ∙ sym (mul-add (w c) always n)
+          ∙ ap (λ (k : ℕ). w c * k) (times-covered c)
+          ∙ sym (total-scale (w c) (λ l. flag (covers (l .ground) number c)) ls)
+          ∙ total-same (λ l. if-covered (w c) (covers (l .ground) number c)) ls
+
+      -- the walk over the rows gives the sum over the licences
+      walk-gives : (grid : List (List Place)) →
+          always * total (total weight) grid + total (total boxed) grid ≡ total (λ l. total (total (under l)) grid) ls
+      walk-gives grid =
+          let scaled : (row : List Place) → total (λ p. always * weight p) row ≡ always * total weight row =
+          total-scale always weight in
+          ap (λ (k : ℕ). k + total (total boxed) grid) (sym (total-scale always (total weight) grid))
+          ∙ sym (total-add (λ row. always * total weight row) (total boxed) grid)
+          ∙ total-same (λ row.
+          ap (λ (k : ℕ). k + total boxed row) (sym (scaled row))
+          ∙ sym (total-add (λ p. always * weight p) boxed row)
+          ∙ total-same at-place row
+          ∙ exchange (λ p l. under l p) row ls) grid
+          ∙ exchange (λ row l. total (under l) row) grid ls
+
+    -- the walk's counts in these terms
+    people-weigh : (p : Place) → peopleAt p ≡ weight (λ c. c .people) p
+    people-weigh gap = refl
+    people-weigh (cell c) = refl
+
+    boxed-people : (p : Place) → boxedPeople edges p ≡ boxed (λ c. c .people) p
+    unfolding boxedPeople
+    boxed-people gap = refl
+    boxed-people (cell c) = refl
+
+    cells-weigh : (p : Place) → cellsAt p ≡ weight (λ c. 1) p
+    cells-weigh gap = refl
+    cells-weigh (cell c) = refl
+
+    boxed-cells : (p : Place) → boxedCells edges p ≡ boxed (λ c. 1) p
+    unfolding boxedCells
+    boxed-cells gap = refl
+    boxed-cells (cell c) = sym (one-mul (boxesOver edges (c .latitude) (c .longitude)))
+
+    under-people : (l : Licence) (p : Place) → under (λ c. c .people) l p ≡ peopleUnder l number p
+    under-people l gap = refl
+    under-people l (cell c) = refl
+
+    under-cells : (l : Licence) (p : Place) → under (λ c. 1) l p ≡ cellUnder l number p
+    under-cells l gap = refl
+    under-cells l (cell c) = refl
+
+    -- c
+    people-are : (grid : List (List Place)) →
+        always * population grid + total (total (boxedPeople edges)) grid ≡ total (λ l. total (total (peopleUnder l number)) grid) ls
+    people-are grid =
+        (λ i. always * total (total (fun-ext people-weigh i)) grid + total (total (fun-ext boxed-people i)) grid)
+        ∙ walk-gives (λ c. c .people) grid
+        ∙ total-same (λ l. ap (λ (f : Place → ℕ). total (total f) grid) (fun-ext (under-people l))) ls
+
+    -- the sum of cells
+    cells-are : (grid : List (List Place)) →
+        always * total (total cellsAt) grid + total (total (boxedCells edges)) grid ≡ total (λ l. total (total (cellUnder l number)) grid) ls
+    cells-are grid =
+        (λ i. always * total (total (fun-ext cells-weigh i)) grid + total (total (fun-ext boxed-cells i)) grid)
+        ∙ walk-gives (λ c. 1) grid
+        ∙ total-same (λ l. ap (λ (f : Place → ℕ). total (total f) grid) (fun-ext (under-cells l))) ls
+
+-- ---- c and the sum of cells of an area of a map
+
+-- what is counted is small, so that no sum stops
+sums-exact : (always : ℕ) (c : Counts) → always ≤ 64 → Small 65536 c →
+    sumsBy always c ≡ record {
+      people = record { 0 = always * c .people .0 + c .«boxed_people» .0 };
+      cells = record { 0 = always * c .cells .0 + c .«boxed_cells» .0 };
+    }
+sums-exact always c few h =
+    let people : always * c .people .0 ≤ 64 * 65536000000 = mul-le-mul {m₂ = 65536000000} few (omega (arith, h .people)) in
+    let cells : always * c .cells .0 ≤ 64 * 65536 = mul-le-mul {m₂ = 65536} few (omega (arith, h .cells)) in
+    λ i. record {
+      people = record {
+        0 = (ap (λ (n : ℕ). capped (n + c .«boxed_people» .0)) (exact (always * c .people .0) (omega arith))
+            ∙ exact (always * c .people .0 + c .«boxed_people» .0) (omega (arith, h .boxed-people))) i;
+      };
+      cells = record {
+        0 = (ap (λ (n : ℕ). capped (n + c .«boxed_cells» .0)) (exact (always * c .cells .0) (omega arith))
+            ∙ exact (always * c .cells .0 + c .«boxed_cells» .0) (omega (arith, h .boxed-cells))) i;
+      };
+    }
+
+module _ {ps : List FlatLicence} {b : Boxes} (d : BoxesDone ps b) {s : List ℕ} {a : Area} (h : AreaHolds s a) where
+  abbrev edgesOf : List ℤ
+  edgesOf = take (4 * b .count) (b .edges)
+
+  pub sums-are : {always : ℕ} → always ≡ namingOf (inForce ps) (a .head .number) → always ≤ 64
+      → sumsBy always (gridCounts edgesOf (a .grid)) ≡ coverageSums (inForce ps) a
+  sums-are {always} named few =
+      sums-exact always (gridCounts edgesOf (a .grid)) few
+      (area-small edgesOf (omega (arith, edges-size d, d .counts .few)) h)
+      ∙ (λ i. record {
+        people = record { 0 = people-are d (a .head .number) named (a .grid) i };
+        cells = record { 0 = cells-are d (a .head .number) named (a .grid) i };
+      })
+
+  -- an area that is handed out, with its c and its sum of cells
+  pub holding-handed : {x : CountedArea} {r : Holding} → x ≡ countedArea edgesOf a
+      → (r ≡ holdingBy (namingOf (inForce ps) (x .area .number)) x) × (namingOf (inForce ps) (x .area .number) ≤ 64)
+      → r ≡ holdingOf (inForce ps) a
+  holding-handed {x} {r} e q =
+      let ls = inForce ps in
+      let few : namingOf ls (a .head .number) ≤ 64 = subst (λ (y : CountedArea). namingOf ls (y .area .number) ≤ 64) e (q .1) in
+      let with : CoverageSums → Holding = λ c. record {
+        number = a .head .number;
+        weight = a .head .weight;
+        population = record { 0 = population (a .grid) };
+        covered = c .people;
+        cells = c .cells;
+      } in
+      q .0 ∙ ap (λ (y : CountedArea). holdingBy (namingOf ls (y .area .number)) y) e ∙ ap with (sums-are refl few)

@@ -8,23 +8,26 @@ use Rattle.register.specs.declared.Licence.{Licence}
 use Rattle.register.specs.Sums.{SameLicences}
 use Rattle.coverage.specs.declared.Holding.{Holding}
 use Rattle.coverage.specs.declared.AreaBlocks.{AreaBlocks}
-use Rattle.coverage.specs.Cover.{coveredBy, coverage, holdingOf, holdingsOf}
+use Rattle.coverage.specs.Cover.{coveredBy, cellsBy, coverageSums, holdingOf, holdingsOf}
 use Rattle.coverage.specs.Blocks.{blocksOf}
-use Rattle.coverage.specs.Answers.{ofMap, coverageAt, noBlocks, blocksAt, holdingsIn}
+use Rattle.coverage.specs.declared.CoverageSums.{CoverageSums}
+use Rattle.coverage.specs.Answers.{ofMap, noSums, coverageAt, noBlocks, blocksAt, holdingsIn}
 
 module _ (xs ys : List Licence) (same : SameLicences xs ys) where
-  pub same-coverage : (a : Area) → coverage xs a ≡ coverage ys a
-  same-coverage a = same (coveredBy a)
+  -- c and the sum of cells are two such sums
+  pub same-sums : (a : Area) → coverageSums xs a ≡ coverageSums ys a
+  same-sums a = λ i. record { people = record { 0 = same (coveredBy a) i }; cells = record { 0 = same (cellsBy a) i } }
 
   pub same-holding : (a : Area) → holdingOf xs a ≡ holdingOf ys a
   same-holding a =
-      let with : ℕ → Holding = λ c. record {
+      let with : CoverageSums → Holding = λ c. record {
         number = a .head .number;
         weight = a .head .weight;
         population = record { 0 = population (a .grid) };
-        covered = record { 0 = c };
+        covered = c .people;
+        cells = c .cells;
       } in
-      ap with (same-coverage a)
+      ap with (same-sums a)
 
   pub same-holdings : (areas : List Area) → holdingsOf xs areas ≡ holdingsOf ys areas
   same-holdings areas = ap (λ (f : Area → Holding). map f areas) (fun-ext same-holding)
@@ -35,7 +38,7 @@ module _ (xs ys : List Licence) (same : SameLicences xs ys) where
 
   pub same-coverage-at : (number : ℕ) (r : Read (List Area)) → coverageAt number xs r ≡ coverageAt number ys r
   unfolding coverageAt
-  same-coverage-at number r = ap (λ (f : Area → ℕ). ofMap number 0 f r) (fun-ext same-coverage)
+  same-coverage-at number r = ap (λ (f : Area → CoverageSums). ofMap number noSums f r) (fun-ext same-sums)
 
   pub same-blocks-at : (number : ℕ) (r : Read (List Area)) → blocksAt number xs r ≡ blocksAt number ys r
   unfolding blocksAt

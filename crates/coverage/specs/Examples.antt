@@ -12,7 +12,8 @@ use Rattle.register.specs.declared.Ground.the-variants as ground
 use Rattle.register.specs.declared.Licence.{Licence}
 use Rattle.coverage.specs.declared.Holding.{Holding}
 use Rattle.coverage.specs.declared.AreaBlocks.{AreaBlocks}
-use Rattle.coverage.specs.Cover.{coverage}
+use Rattle.coverage.specs.declared.CoverageSums.{CoverageSums}
+use Rattle.coverage.specs.Cover.{coverage, sumOfCells}
 use Rattle.coverage.specs.Blocks.{remainder, roundsUp, wholeBlocks, partial, value, size, blocksOf}
 use Rattle.coverage.specs.Answers.{Answer, refused, answers, coverageAt, blocksAt}
 
@@ -44,7 +45,7 @@ blocksRows =
     holds 40_000_000 65_535 79_200_000 1 0 0 ∷ []
 
 abbrev held : (population weight covered : ℕ) → Holding
-held p w c = record { number = 5; weight = w; population = record { 0 = p }; covered = record { 0 = c } }
+held p w c = record { number = 5; weight = w; population = record { 0 = p }; covered = record { 0 = c }; cells = record { 0 = 0 } }
 
 abbrev sameBlocks : AreaBlocks → (whole value size : ℕ) → Bool
 sameBlocks b n v m = eqb (b .whole) n && eqb (b .value .0) v && eqb (b .size .0) m
@@ -57,19 +58,20 @@ pub blocks-right : blocksRight blocksRows ≡ true
 unfolding blocksOf wholeBlocks partial roundsUp value size remainder
 blocks-right = refl
 
--- ---- coverage of one area: number 5, two rows and two columns, one place without a cell
+-- ---- coverage of one area: number 5, three rows and two columns, two places without a cell, and a cell without people
 
 abbrev at : (people : ℕ) → (latitude longitude : ℤ) → Place
 at p x y = cell (record { people = p; latitude = x; longitude = y })
 
 abbrev five : Area
 five = record {
-  head = record { number = 5; weight = 1; rows = 2; columns = 2 };
+  head = record { number = 5; weight = 1; rows = 3; columns = 2 };
   start = 9;
   grid =
       (at 10 (pos 0) (pos 0) ∷ at 4 (pos 0) (pos 1) ∷ []) ∷
-      (gap ∷ at 3 (negsuc 0) (pos 1) ∷ []) ∷ [];
-  end = 47;
+      (gap ∷ at 3 (negsuc 0) (pos 1) ∷ []) ∷
+      (at 0 (negsuc 1) (pos 0) ∷ gap ∷ []) ∷ [];
+  end = 60;
 }
 
 -- a licence for an area, and one for a box by its south, north, west and east
@@ -79,48 +81,51 @@ ofArea n = record { «call_sign» = 1; ground = ground.Area n }
 abbrev ofBox : (south north west east : ℤ) → Licence
 ofBox s n w e = record { «call_sign» = 1; ground = ground.Box (record { south = s; north = n; west = w; east = e }) }
 
--- the licences in force, and c
+-- the licences in force, c and the sum of cells
 pub data CoverRow : Type 0 where
-  covered : List Licence → ℕ → CoverRow
+  covered : List Licence → (people cells : ℕ) → CoverRow
 
 abbrev pub coverRows : List CoverRow
 coverRows =
-    covered [] 0 ∷
-    -- every cell, and the first row
-    covered (ofBox (negsuc 0) (pos 1) (pos 0) (pos 2) ∷ []) 17 ∷
-    covered (ofBox (pos 0) (pos 1) (pos 0) (pos 2) ∷ []) 14 ∷
+    covered [] 0 0 ∷
+    -- every cell, the first row, and the cell without people
+    covered (ofBox (negsuc 1) (pos 1) (pos 0) (pos 2) ∷ []) 17 4 ∷
+    covered (ofBox (pos 0) (pos 1) (pos 0) (pos 2) ∷ []) 14 2 ∷
+    covered (ofBox (negsuc 1) (negsuc 0) (pos 0) (pos 2) ∷ []) 0 1 ∷
     -- a cell on the south edge is covered, one on the north edge is not
-    covered (ofBox (negsuc 0) (pos 0) (pos 0) (pos 2) ∷ []) 3 ∷
-    covered (ofBox (pos 1) (pos 2) (pos 0) (pos 2) ∷ []) 0 ∷
+    covered (ofBox (negsuc 0) (pos 0) (pos 0) (pos 2) ∷ []) 3 1 ∷
+    covered (ofBox (pos 1) (pos 2) (pos 0) (pos 2) ∷ []) 0 0 ∷
     -- a cell on the west edge is covered, one on the east edge is not
-    covered (ofBox (pos 0) (pos 1) (pos 1) (pos 2) ∷ []) 4 ∷
-    covered (ofBox (pos 0) (pos 1) (pos 0) (pos 1) ∷ []) 10 ∷
-    covered (ofBox (pos 0) (pos 1) (negsuc 4) (pos 0) ∷ []) 0 ∷
+    covered (ofBox (pos 0) (pos 1) (pos 1) (pos 2) ∷ []) 4 1 ∷
+    covered (ofBox (pos 0) (pos 1) (pos 0) (pos 1) ∷ []) 10 1 ∷
+    covered (ofBox (pos 0) (pos 1) (negsuc 4) (pos 0) ∷ []) 0 0 ∷
     -- two adjoining boxes share no cell
-    covered (ofBox (pos 0) (pos 1) (pos 0) (pos 1) ∷ ofBox (pos 0) (pos 1) (pos 1) (pos 2) ∷ []) 14 ∷
+    covered (ofBox (pos 0) (pos 1) (pos 0) (pos 1) ∷ ofBox (pos 0) (pos 1) (pos 1) (pos 2) ∷ []) 14 2 ∷
     -- two licences on the same cell count it twice
-    covered (ofBox (pos 0) (pos 1) (pos 0) (pos 1) ∷ ofBox (pos 0) (pos 1) (pos 0) (pos 1) ∷ []) 20 ∷
-    covered (ofBox (pos 0) (pos 1) (pos 0) (pos 1) ∷ ofBox (pos 0) (pos 1) (pos 0) (pos 2) ∷ []) 24 ∷
+    covered (ofBox (pos 0) (pos 1) (pos 0) (pos 1) ∷ ofBox (pos 0) (pos 1) (pos 0) (pos 1) ∷ []) 20 2 ∷
+    covered (ofBox (pos 0) (pos 1) (pos 0) (pos 1) ∷ ofBox (pos 0) (pos 1) (pos 0) (pos 2) ∷ []) 24 3 ∷
     -- the area's own number, another's, and an area with a box
-    covered (ofArea 5 ∷ []) 17 ∷
-    covered (ofArea 6 ∷ []) 0 ∷
-    covered (ofArea 5 ∷ ofArea 5 ∷ []) 34 ∷
-    covered (ofArea 6 ∷ ofArea 5 ∷ ofBox (pos 0) (pos 1) (pos 0) (pos 1) ∷ []) 27 ∷ []
+    covered (ofArea 5 ∷ []) 17 4 ∷
+    covered (ofArea 6 ∷ []) 0 0 ∷
+    covered (ofArea 5 ∷ ofArea 5 ∷ []) 34 8 ∷
+    covered (ofArea 6 ∷ ofArea 5 ∷ ofBox (pos 0) (pos 1) (pos 0) (pos 1) ∷ []) 27 5 ∷ []
 
 abbrev pub coverRight : List CoverRow → Bool
 coverRight [] = true
-coverRight (covered ls c ∷ rows) = eqb (coverage ls five) c && coverRight rows
+coverRight (covered ls c n ∷ rows) = eqb (coverage ls five) c && eqb (sumOfCells ls five) n && coverRight rows
 
 pub cover-right : coverRight coverRows ≡ true
 cover-right = refl
 
 -- ---- answers: the area's number, a number that the map lacks, and a map that is refused
 
-abbrev sameCover : Answer ℕ → Answer ℕ → Bool
-sameCover (refused m) (refused n) = eqb m n
-sameCover (refused m) (answers c) = false
-sameCover (answers c) (refused n) = false
-sameCover (answers c) (answers d) = eqb c d
+abbrev coverIs : Answer CoverageSums → (people cells : ℕ) → Bool
+coverIs (refused m) p n = false
+coverIs (answers c) p n = eqb (c .people .0) p && eqb (c .cells .0) n
+
+abbrev coverRefused : Answer CoverageSums → ℕ → Bool
+coverRefused (refused m) n = eqb m n
+coverRefused (answers c) n = false
 
 abbrev blocksAre : Answer AreaBlocks → (whole value size : ℕ) → Bool
 blocksAre (refused m) n v s = false
@@ -131,17 +136,17 @@ refusedBy (refused m) n = eqb m n
 refusedBy (answers b) n = false
 
 abbrev onMap : Read (List Area)
-onMap = good (five ∷ []) 47
+onMap = good (five ∷ []) 60
 
--- a licence for the area and one for a cell of 10 people: c 27 of 17 people
+-- a licence for the area and one for a cell of 10 people: c 27 of 17 people, and 5 cells of 4
 abbrev lines : List Licence
 lines = ofArea 5 ∷ ofBox (pos 0) (pos 1) (pos 0) (pos 1) ∷ []
 
 abbrev answersRight : Bool
 answersRight =
-    sameCover (coverageAt 5 lines onMap) (answers 27) &&
-    sameCover (coverageAt 6 lines onMap) (answers 0) &&
-    sameCover (coverageAt 5 lines (bad 2)) (refused 2) &&
+    coverIs (coverageAt 5 lines onMap) 27 5 &&
+    coverIs (coverageAt 6 lines onMap) 0 0 &&
+    coverRefused (coverageAt 5 lines (bad 2)) 2 &&
     blocksAre (blocksAt 5 lines onMap) 0 1_350 1_700 &&
     blocksAre (blocksAt 6 lines onMap) 0 0 0 &&
     refusedBy (blocksAt 5 lines (bad 4)) 4

@@ -1,20 +1,21 @@
 -- Document 01, "Coverage and blocks": what the functions below its two ways in ask for and give. Assumes nothing.
-use Prim.Native.Nat.{ℕ, _≤_, _<_}
+use Prim.Native.Nat.{ℕ, _+_, _*_, _≤_, _<_}
 use mathlib.Core.Bool.{Bool, _&&_}
 use mathlib.Core.List.{List}
 use lib.Dec.{leb}
 use lib.ListN.{replicate}
-use Rattle.lists.specs.Sums.{total}
-use Rattle.map.specs.Reading.{Read, bad, good}
-use Rattle.map.specs.Format.{Place}
-use Rattle.map.specs.declared.Area.{Area}
+use Rattle.lists.specs.Sums.{total, flag}
+use Rattle.units.specs.Sums.{capped}
+use Rattle.map.specs.declared.parts.Counts.{Counts}
+use Rattle.map.specs.declared.parts.CountedArea.{CountedArea}
 use Rattle.map.specs.declared.Fault.{Fault}
 use Rattle.map.specs.declared.Checked.the-variants as checked
 use Rattle.register.specs.declared.Licence.{Licence}
+use Rattle.register.specs.Grounds.{names}
+use Rattle.coverage.specs.declared.CoverageSums.{CoverageSums}
 use Rattle.coverage.specs.declared.Holding.{Holding}
 use Rattle.coverage.specs.declared.Holdings.{Holdings}
-use Rattle.coverage.specs.Cover.{peopleUnder}
-use Rattle.coverage.specs.Answers.{noHolding}
+use Rattle.coverage.specs.Answers.{noHolding, noArea}
 
 -- "The map": "weight, u32, 1 to 65,535" and "population .. 1 to 40,000,000". Within them v and M are exact
 pub record Limits (h : Holding) : Type 0 where
@@ -27,20 +28,28 @@ pub record Limits (h : Holding) : Type 0 where
 unfoldable pub inLimits : Holding → Bool
 inLimits h = leb 1 (h .weight) && leb (h .weight) 65535 && leb 1 (h .population .0) && leb (h .population .0) 40000000
 
--- "For an area, c is the sum, over licences in force, of the people in covered cells": by what is read of the area's rows
-abbrev pub coveredIn : List Licence → (number : ℕ) → Read (List (List Place)) → ℕ
-coveredIn licences number (bad f) = 0
-coveredIn licences number (good grid e) = total (λ l. total (total (peopleUnder l number)) grid) licences
-
--- an area that is handed out, with its c by what is read of its rows
-abbrev pub holdingIn : List Licence → Area → Read (List (List Place)) → Holding
-holdingIn licences a rows = record {
-  number = a .number;
-  weight = a .weight;
-  population = a .population;
-  covered = record { 0 = coveredIn licences (a .number) rows };
+-- c and the sum of cells by what one walk counts: `always` licences have the whole area, and the boxes of the others add theirs. No
+-- sum of an area of a map comes near the largest count (proofs/CoverLaws, `sums-are`)
+abbrev pub sumsBy : (always : ℕ) → Counts → CoverageSums
+sumsBy always c = record {
+  people = record { 0 = capped (capped (always * c .people .0) + c .«boxed_people» .0) };
+  cells = record { 0 = capped (capped (always * c .cells .0) + c .«boxed_cells» .0) };
 }
+
+-- an area that is handed out, with its c and its sum of cells
+abbrev pub holdingBy : (always : ℕ) → CountedArea → Holding
+holdingBy always a = record {
+  number = a .area .number;
+  weight = a .area .weight;
+  population = a .area .population;
+  covered = sumsBy always (a .counts) .people;
+  cells = sumsBy always (a .counts) .cells;
+}
+
+-- how many licences have the area with a number
+abbrev pub namingOf : List Licence → (number : ℕ) → ℕ
+namingOf licences number = total (λ l. flag (names number l)) licences
 
 -- "Refused by the input", 1 to 5: no holdings, and the fixed value at every entry
 abbrev pub noHoldings : Fault → Holdings
-noHoldings f = record { checked = checked.Refused f; count = 0; areas = replicate 32 noHolding }
+noHoldings f = record { checked = checked.Refused f; count = 0; areas = replicate 32 noHolding; stands = replicate 32 noArea }

@@ -1,30 +1,31 @@
-// Document 01, "Coverage and blocks": the people that the licences in force cover in an area, and the blocks they come to. The ways
-// in are coverage and blocks; the module parts serves the crates above.
+// Document 01, "Coverage and blocks", and document 02, Paper 1: the people and the cells that the licences in force cover in an area,
+// and the blocks they come to. The ways in are coverage and blocks; the module parts serves the crates above.
 pub mod parts;
 
 use map::Area;
 use map::Checked;
 use map::Fault;
-use map::Found;
-use map::parts::Tally;
-use register::Boxes;
+use map::parts::CountedArea;
+use map::parts::Counts;
+use map::parts::Sought;
 use register::Register;
+use units::Cells;
 use units::People;
 use units::Weighted;
 ghost use mathlib.Core.Path.{_≡_};
 ghost use Prim.Native.Nat.{_≤_};
-ghost use Rattle.map.specs.Format.{readRows, readMap};
+ghost use Rattle.map.specs.Format.{readMap};
 ghost use Rattle.register.specs.Licences.{inForce};
-ghost use Rattle.register.specs.Grounds.{BoxesDone};
-ghost use Rattle.coverage.specs.Limits.{coveredIn, holdingIn};
+ghost use Rattle.coverage.specs.Limits.{sumsBy, holdingBy, namingOf};
 ghost use Rattle.coverage.specs.Answers.{coverageAt, blocksAt, coverageMeans, blocksMeans};
 
-// An area of a map with c, the people that licences in force cover in it.
+// An area of a map with c, the people that licences in force cover in it, and its sum of cells, those that they cover.
 pub struct Holding {
     pub number: u16,
     pub weight: u32,
     pub population: People,
     pub covered: People,
+    pub cells: Cells,
 }
 
 // The blocks of an area: whole ones, and the value v and the size M where it is partial, else 0.
@@ -34,10 +35,16 @@ pub struct AreaBlocks {
     pub size: Weighted,
 }
 
-// The people covered, or why the map is refused.
+// The people and the cells that licences in force cover in an area, each cell once for each licence over it.
+pub struct CoverageSums {
+    pub people: People,
+    pub cells: Cells,
+}
+
+// The people and the cells covered, or why the map is refused.
 pub enum CoverageAnswer {
     Refused(Fault),
-    Covered(People),
+    Covered(CoverageSums),
 }
 
 // The blocks held, or why the map is refused.
@@ -46,11 +53,13 @@ pub enum BlocksAnswer {
     Held(AreaBlocks),
 }
 
-// The areas of a map with their c: the first count of areas. A refused map has none.
+// The areas of a map: the first count of areas, with their c, and the first count of stands, with where their rows stand, so that
+// the cells of one area are read without the others. A refused map has none.
 pub struct Holdings {
     pub checked: Checked,
     pub count: usize,
     pub areas: [Holding; 32],
+    pub stands: [Area; 32],
 }
 
 impl Holding {
@@ -60,50 +69,64 @@ impl Holding {
         weight: 0,
         population: People(0),
         covered: People(0),
+        cells: Cells(0),
     };
 }
 
-// c of an area whose rows stand at its start: licences with its number count all its people, boxes those in the cells they cover.
-fn covered_in(map: &[u8], a: Area, register: Register, boxes: Boxes) -> People
-    requires { ⌜ (a .columns ≤ 256) × (a .rows ≤ 256) × BoxesDone (register .places) boxes ⌝ }
-    ensures { λ r. ⌜
-        r .0 ≡ coveredIn (inForce (register .places)) (a .number) (readRows (now (map .entry)) (a .columns) (a .rows) (a .start))
-        ⌝ }
+// c and the sum of cells of an area by what one walk counted: always licences have the whole area, which count all its people and
+// cells; the boxes of the others count those under them.
+fn sums_of(counts: Counts, always: u32) -> CoverageSums
+    ensures { λ r. ⌜ r ≡ sumsBy always counts ⌝ }
 {
-    let always = register.naming(a.number);
-    let edges = boxes.edges;
-    let end = 4 * boxes.count;
-    match map::parts::people_in(map, a.columns, a.rows, a.start, always, &edges[..end]) {
-        Tally::Bad(_) => People(0),
-        Tally::Good(people, _) => people,
+    let people = counts.people;
+    let cells = counts.cells;
+    let boxed_people = counts.boxed_people;
+    let boxed_cells = counts.boxed_cells;
+    CoverageSums {
+        people: people.times(always).plus(boxed_people),
+        cells: cells.times(always).plus(boxed_cells),
     }
 }
 
-// An area with its c.
-fn holding_in(map: &[u8], a: Area, register: Register, boxes: Boxes) -> Holding
-    requires { ⌜ (a .columns ≤ 256) × (a .rows ≤ 256) × BoxesDone (register .places) boxes ⌝ }
+// An area with its c and its sum of cells.
+fn holding_of(a: CountedArea, register: Register) -> Holding
     ensures { λ r. ⌜
-        r ≡ holdingIn (inForce (register .places)) a (readRows (now (map .entry)) (a .columns) (a .rows) (a .start))
+        (r ≡ holdingBy (namingOf (inForce (register .places)) (a .area .number)) a)
+        × (namingOf (inForce (register .places)) (a .area .number) ≤ 64)
         ⌝ }
 {
-    let population = a.population;
-    let covered = covered_in(map, a, register, boxes);
+    let area = a.area;
+    let counts = a.counts;
+    let population = area.population;
+    let sums = sums_of(counts, register.naming(area.number));
+    let covered = sums.people;
+    let cells = sums.cells;
     Holding {
-        number: a.number,
-        weight: a.weight,
+        number: area.number,
+        weight: area.weight,
         population,
         covered,
+        cells,
     }
 }
 
-// c of the area with a number: zero for a number that the map lacks.
+// c and the sum of cells of the area with a number: zeros for a number that the map lacks.
 pub fn coverage(map: &[u8], register: Register, number: u16) -> CoverageAnswer
     ensures { λ r. ⌜ coverageMeans r ≡ coverageAt number (inForce (register .places)) (readMap (now (map .entry))) ⌝ }
 {
-    match map::look_up(map, number) {
-        Found::Refused(f) => CoverageAnswer::Refused(f),
-        Found::Lacking => CoverageAnswer::Covered(People(0)),
-        Found::At(a) => CoverageAnswer::Covered(covered_in(map, a, register, register.boxes())),
+    let boxes = register.boxes();
+    let edges = boxes.edges;
+    let end = 4 * boxes.count;
+    match map::parts::find(map, number, &edges[..end]) {
+        Sought::Refused(f) => CoverageAnswer::Refused(f),
+        Sought::Lacking => CoverageAnswer::Covered(CoverageSums {
+            people: People(0),
+            cells: Cells(0),
+        }),
+        Sought::At(a) => {
+            let counts = a.counts;
+            CoverageAnswer::Covered(sums_of(counts, register.naming(number)))
+        }
     }
 }
 
@@ -111,18 +134,16 @@ pub fn coverage(map: &[u8], register: Register, number: u16) -> CoverageAnswer
 pub fn blocks(map: &[u8], register: Register, number: u16) -> BlocksAnswer
     ensures { λ r. ⌜ blocksMeans r ≡ blocksAt number (inForce (register .places)) (readMap (now (map .entry))) ⌝ }
 {
-    match map::look_up(map, number) {
-        Found::Refused(f) => BlocksAnswer::Refused(f),
-        Found::Lacking => BlocksAnswer::Held(AreaBlocks {
+    let boxes = register.boxes();
+    let edges = boxes.edges;
+    let end = 4 * boxes.count;
+    match map::parts::find(map, number, &edges[..end]) {
+        Sought::Refused(f) => BlocksAnswer::Refused(f),
+        Sought::Lacking => BlocksAnswer::Held(AreaBlocks {
             whole: 0,
             value: Weighted(0),
             size: Weighted(0),
         }),
-        Found::At(a) => BlocksAnswer::Held(parts::blocks_of(holding_in(
-            map,
-            a,
-            register,
-            register.boxes(),
-        ))),
+        Sought::At(a) => BlocksAnswer::Held(parts::blocks_of(holding_of(a, register))),
     }
 }

@@ -2,6 +2,7 @@
 use super::AreaBlocks;
 use super::Holding;
 use super::Holdings;
+use map::Area;
 use map::Checked;
 use map::Fault;
 use map::fields::Field;
@@ -17,6 +18,17 @@ ghost use Rattle.register.specs.Licences.{inForce};
 ghost use Rattle.coverage.specs.Blocks.{blocksOf};
 ghost use Rattle.coverage.specs.Limits.{Limits, inLimits, noHoldings};
 ghost use Rattle.coverage.specs.Answers.{noBlocks, HoldingsDone};
+
+// What stands at the entries past the areas of a map.
+const NO_AREA: Area = Area {
+    number: 0,
+    weight: 0,
+    rows: 0,
+    columns: 0,
+    population: People(0),
+    start: 0,
+    end: 0,
+};
 
 // Whether an area's weight and population are within the map's limits.
 fn in_limits(h: Holding) -> bool
@@ -71,7 +83,7 @@ fn blocks_within(h: Holding) -> AreaBlocks
     }
 }
 
-// The areas of a map with their c, in one pass over the map.
+// The areas of a map with their c and where their rows stand, in one pass over the map.
 pub fn holdings_in(map: &[u8], register: Register) -> Holdings
     ensures { λ r. ⌜ HoldingsDone (inForce (register .places)) (readMap (now (map .entry))) r ⌝ }
 {
@@ -89,28 +101,34 @@ fn no_holdings(f: Fault) -> Holdings
         checked: Checked::Refused(f),
         count: 0,
         areas: [Holding::NONE; 32],
+        stands: [NO_AREA; 32],
     }
 }
 
-// The areas of a map with their c, from the first one's position to the end of the map.
+// The areas of a map with their c and where their rows stand, from the first one's position to the end of the map.
 fn holdings_from(map: &[u8], register: Register, count: usize, first: usize) -> Holdings
     requires { ⌜ count ≤ 32 ⌝ }
     ensures { λ r. ⌜ HoldingsDone (inForce (register .places)) (readRest (now (map .entry)) count first) r ⌝ }
 {
     let boxes = register.boxes();
+    let edges = boxes.edges;
+    let end = 4 * boxes.count;
     let mut areas = [Holding::NONE; 32];
+    let mut stands = [NO_AREA; 32];
     let mut before: u16 = 0;
     let mut at = first;
     let mut k: usize = 0;
     while k < count {
-        match map::parts::area_at(map, before, at) {
+        match map::parts::area_at(map, before, at, &edges[..end]) {
             AreaRead::Bad(f) => {
                 return no_holdings(f);
             }
             AreaRead::Good(a) => {
-                areas[k] = super::holding_in(map, a, register, boxes);
-                before = a.number;
-                at = a.end;
+                let area = a.area;
+                areas[k] = super::holding_of(a, register);
+                stands[k] = area;
+                before = area.number;
+                at = area.end;
             }
         }
         k += 1;
@@ -120,6 +138,7 @@ fn holdings_from(map: &[u8], register: Register, count: usize, first: usize) -> 
             checked: Checked::Accepted,
             count,
             areas,
+            stands,
         }
     } else {
         no_holdings(Fault::Extra)

@@ -2,7 +2,7 @@
 -- document 01's for the ledger's lines, and over an accepted map it is right. Assumes nothing.
 use Prim.Native.Nat.{ℕ, zero, suc, _+_, _≤_}
 use mathlib.Core.Path.{_≡_, refl, sym, ap, subst, _∙_}
-use mathlib.Core.List.{List, []}
+use mathlib.Core.List.{List, [], map-map}
 use native.Mathlib.Omega.{arith}
 use lib.Dec.{ltb, eqb}
 use lib.ListN.{length, replicate}
@@ -22,12 +22,12 @@ use Rattle.register.specs.Sums.{SameLicences, signs}
 use Rattle.register.proofs.Laws.{sign-is, formed-sign, accepted-formed, accepted-new, accepted-room}
 use Rattle.register.proofs.Sums.{same-grant, same-cancel, same-strike, release-strike, placed-total, once-added, strike-le}
 use Rattle.coverage.specs.declared.Holding.{Holding}
-use Rattle.coverage.specs.Cover.{holdingsOf}
+use Rattle.coverage.specs.Cover.{holdingOf, holdingsOf}
 use Rattle.coverage.proofs.SameLaws.{same-holdings}
 use Rattle.proposal.specs.Choices.{partials}
-use Rattle.proposal.specs.Answer.{Proposal, proposal, proposalOn}
+use Rattle.proposal.specs.Answer.{Proposal, cellsShown, proposal, proposalOn}
 use Rattle.proposal.specs.Demand as demand
-use Rattle.proposal.proofs.Theorems.{refused-by, right}
+use Rattle.proposal.proofs.Theorems.{cellsHeld, shows-cells, refused-by, right}
 use Rattle.footprint.specs.Footprint.{Footprint, footprintOn}
 use Rattle.footprint.specs.Contracts.{Leaves}
 use Rattle.footprint.proofs.SameLaws.{same-footprint}
@@ -121,11 +121,13 @@ proposal-right : (areas : List Area) (lines : List Licence) (draw : ℕ) (p : Pr
     p ≡ proposal (holdingsOf lines areas) draw → ProposalRight areas lines draw p
 proposal-right areas lines draw p e =
     let n : p .refused ≡ proposal (holdingsOf lines areas) draw .refused = ap (λ (x : Proposal). x .refused) e in
+    let few : p .refused ≡ 0 → length (partials (holdingsOf lines areas)) ≤ 20 =
+    λ z. few-partial (holdingsOf lines areas) draw (sym n ∙ z) in
     record {
       answer = e;
       refused = n ∙ refused-by (holdingsOf lines areas) draw;
-      right = λ z. subst (demand.Right (holdingsOf lines areas)) (sym e)
-          (right (holdingsOf lines areas) draw (few-partial (holdingsOf lines areas) draw (sym n ∙ z)));
+      right = λ z. subst (demand.Right (holdingsOf lines areas)) (sym e) (right (holdingsOf lines areas) draw (few z));
+      cells = λ z. ap cellsShown e ∙ shows-cells (holdingsOf lines areas) draw (few z) ∙ map-map cellsHeld (holdingOf lines) areas;
     }
 
 pub right-step : (map : List ℕ) (areas : List Area) (end : ℕ) → readMap map ≡ good areas end →

@@ -2,7 +2,7 @@
 use Prim.Native.Nat.{ℕ, _≤_, _<_}
 use mathlib.Core.Path.{_≡_}
 use mathlib.Core.Bool.{cond}
-use mathlib.Core.List.{List, [], _∷_, _++_}
+use mathlib.Core.List.{List, [], _∷_, _++_, map}
 use lib.Dec.{ltb}
 use lib.ListN.{length, drop, replicate}
 use Rattle.map.specs.Reading.{Read, good}
@@ -13,9 +13,9 @@ use Rattle.register.specs.declared.Register.{Register}
 use Rattle.register.specs.Licences.{inForce}
 use Rattle.register.specs.Rules.{limit, grantRule, cancelRule}
 use Rattle.register.specs.Sums.{SameLicences, OnceEach}
-use Rattle.coverage.specs.Cover.{holdingsOf}
+use Rattle.coverage.specs.Cover.{sumOfCells, holdingsOf}
 use Rattle.proposal.specs.Choices.{partials}
-use Rattle.proposal.specs.Answer.{Proposal, proposal, proposalOn}
+use Rattle.proposal.specs.Answer.{Proposal, AreaCells, cellsShown, proposal, proposalOn}
 use Rattle.proposal.specs.Demand as demand
 use Rattle.ring.specs.Ring.{shown}
 use Rattle.rounds.specs.Demand as outline
@@ -26,6 +26,10 @@ use Rattle.demand3.specs.Calls.{Call, grant, cancel, propose, footprint,
 use Rattle.demand3.specs.Ledger.{linesAfter, ledger}
 use Rattle.demand3.specs.Interface.{Interface, Made, Saying, calls, numberOf, Run, done, step}
 
+-- document 02, Paper 1: "the sum of cells for each map area", over the ledger's lines
+abbrev pub cellsOf : List Licence → Area → AreaCells
+cellsOf lines a = record { number = a .head .number; cells = sumOfCells lines a }
+
 -- "In a list, the licences in force are the ledger's lines before the call; c, S, T, share .. come from them": what is claimed of a
 -- proposal over a map with these areas
 pub record ProposalRight (areas : List Area) (lines : List Licence) (draw : ℕ) (p : Proposal) : Type 0 where
@@ -35,6 +39,8 @@ pub record ProposalRight (areas : List Area) (lines : List Licence) (draw : ℕ)
   pub refused : p .refused ≡ cond (ltb 20 (length (partials (holdingsOf lines areas)))) 12 0
   -- not refused, it is an allowed choice from S, every allowed choice ranks level or behind, and it is all whole exactly when some is
   pub right : p .refused ≡ 0 → demand.Right (holdingsOf lines areas) p
+  -- document 02, Paper 1: not refused, "The proposal shows the sum of cells for each map area"
+  pub cells : p .refused ≡ 0 → cellsShown p ≡ map (cellsOf lines) areas
 
 -- the partial area of a footprint with its share: "A footprint's share is that of the proposal on the same lines with the footprint's
 -- draw"

@@ -17,16 +17,15 @@ use Rattle.lists.proofs.InPlace.{drop-same, front-is, each-below, each-at, zero
 use Rattle.map.specs.declared.Cell.{Cell}
 use Rattle.map.specs.Reading.{Read}
 use Rattle.map.specs.Format.{Place, gap, cell, peopleAt, Area, readRows}
-use Rattle.map.specs.Counting.{boxesOver}
+use Rattle.boxes.specs.Boxes.{boxesOver}
 use Rattle.map.specs.Answers.{summary}
 use Rattle.map.specs.declared.Area as handed
 use Rattle.map.specs.Accepted.{AreaHolds}
-use Rattle.map.proofs.LoopLaws.{walk-passes}
 use Rattle.register.specs.declared.Licence.{Licence}
 use Rattle.coverage.specs.Cover.{covers, holdingOf}
 use Rattle.coverage.specs.Blocks.{size}
-use Rattle.places.specs.Places.{placeOf, isCell, isCovered, gridOf, Lists, canLayOut, LaidOut}
-use Rattle.places.proofs.PlaceLaws.{place-small, people-sum, can-in}
+use Rattle.places.specs.Places.{placeOf, isCell, isCovered, gridOf, Lists, LaidOut}
+use Rattle.places.proofs.PlaceLaws.{place-small, people-sum}
 use Rattle.ring.specs.Ring.{shown, fits}
 use Rattle.ring.proofs.RingLaws.{fits-of}
 use Rattle.rounds.specs.declared.Answer.{Answer}
@@ -77,11 +76,11 @@ pub record Holds (a : Area) (licences : List Licence) (l : Lists) : Type 0 where
   pub mask : (i : ℕ) → i < places (partArea a) → getD (l .mask) i 0 ≡ flag (coveredCells licences a i)
 
 -- what is laid at a place of the area, and past it
-laid-in : (can : Bool) (n i put before : ℕ) → can ≡ true → i < n → cond (can && ltb i n) put before ≡ put
-laid-in can n i put before c h = rw (c, lt-ltb i n h)
+laid-in : (n i put before : ℕ) → i < n → cond (ltb i n) put before ≡ put
+laid-in n i put before h = rw (lt-ltb i n h)
 
-laid-past : (can : Bool) (n i put before : ℕ) → can ≡ true → n ≤ i → cond (can && ltb i n) put before ≡ before
-laid-past can n i put before c h = rw (c, le-ltb i n h)
+laid-past : (n i put before : ℕ) → n ≤ i → cond (ltb i n) put before ≡ before
+laid-past n i put before h = rw (le-ltb i n h)
 
 module _ {s : List ℕ} {a : Area} (h : AreaHolds s a) (licences : List Licence) (always : ℕ) (edges : List ℤ)
     (over : (c : Cell) → ltb 0 (always + boxesOver edges (c .latitude) (c .longitude))
@@ -94,33 +93,27 @@ module _ {s : List ℕ} {a : Area} (h : AreaHolds s a) (licences : List Licence)
     covered-is gap = refl
     covered-is (cell c) = over c
 
-    module _ (before after : Lists) (d : LaidOut rows (a .head .columns) (a .head .rows) always edges before after)
-        (can : canLayOut rows (a .head .columns) (a .head .rows) always (length edges) before ≡ true)
-      where
-        abbrev room : Bool
-        room = canLayOut rows (a .head .columns) (a .head .rows) always (length edges) before
+    module _ (before after : Lists) (d : LaidOut rows (a .head .columns) (a .head .rows) always edges before after) where
+      abbrev at : Read (List (List Place)) → ℕ → Place
+      at r i = placeOf (gridOf r) (a .head .columns) i
 
-        abbrev at : Read (List (List Place)) → ℕ → Place
-        at r i = placeOf (gridOf r) (a .head .columns) i
+      pub laid-holds : Holds a licences after
+      laid-holds = record {
+        people = λ i b.
+            d .people i ∙ laid-in (places (partArea a)) i (peopleAt (at rows i)) (getD (before .people) i 0) b
+            ∙ ap (λ (r : Read (List (List Place))). peopleAt (at r i)) (h .reads);
+        cells = λ i b.
+            d .cells i ∙ laid-in (places (partArea a)) i (flag (isCell (at rows i))) (getD (before .cells) i 0) b
+            ∙ ap (λ (r : Read (List (List Place))). flag (isCell (at r i))) (h .reads);
+        mask = λ i b.
+            d .mask i ∙ laid-in (places (partArea a)) i (flag (isCovered always edges (at rows i))) (getD (before .mask) i 0) b
+            ∙ ap (λ (r : Read (List (List Place))). flag (isCovered always edges (at r i))) (h .reads)
+            ∙ ap flag (covered-is (placeOf (a .grid) (a .head .columns) i));
+      }
 
-        pub laid-holds : Holds a licences after
-        laid-holds = record {
-          people = λ i b.
-              d .people i ∙ laid-in room (places (partArea a)) i (peopleAt (at rows i)) (getD (before .people) i 0) can b
-              ∙ ap (λ (r : Read (List (List Place))). peopleAt (at r i)) (h .reads);
-          cells = λ i b.
-              d .cells i ∙ laid-in room (places (partArea a)) i (flag (isCell (at rows i))) (getD (before .cells) i 0) can b
-              ∙ ap (λ (r : Read (List (List Place))). flag (isCell (at r i))) (h .reads);
-          mask = λ i b.
-              d .mask i ∙ laid-in room (places (partArea a)) i (flag (isCovered always edges (at rows i))) (getD (before .mask) i 0) can b
-              ∙ ap (λ (r : Read (List (List Place))). flag (isCovered always edges (at r i))) (h .reads)
-              ∙ ap flag (covered-is (placeOf (a .grid) (a .head .columns) i));
-        }
-
-        pub laid-rest : (i : ℕ) → places (partArea a) ≤ i → getD (after .mask) i 0 ≡ getD (before .mask) i 0
-        laid-rest i b =
-            d .mask i
-            ∙ laid-past room (places (partArea a)) i (flag (isCovered always edges (at rows i))) (getD (before .mask) i 0) can b
+      pub laid-rest : (i : ℕ) → places (partArea a) ≤ i → getD (after .mask) i 0 ≡ getD (before .mask) i 0
+      laid-rest i b =
+          d .mask i ∙ laid-past (places (partArea a)) i (flag (isCovered always edges (at rows i))) (getD (before .mask) i 0) b
 
 -- ---- what the rounds make of the lists
 
@@ -269,8 +262,6 @@ module _ {s : List ℕ} {a : Area} (h : AreaHolds s a) (licences : List Licence)
 pub record Outlined (s : List ℕ) (licences : List Licence) (share : ℕ) (x : handed.Area) (r : Answer) (b : Buffers) : Type 0 where
   pub always : ℕ
   pub edges : List ℤ
-  pub often : always ≤ 64
-  pub boxed : length edges ≤ 256
   pub over : (c : Cell) → ltb 0 (always + boxesOver edges (c .latitude) (c .longitude))
       ≡ any (λ l. covers (l .ground) (x .number) c) licences
   pub before : Lists
@@ -295,15 +286,9 @@ module _ {s : List ℕ} {a : Area} (h : AreaHolds s a) (licences : List Licence)
         → Comes (footprintOf (a .head .number) (partArea a) share (coveredCells licences a)) (toldBy (a .head .number) r) b
     of-summary d =
         let n = places (partArea a) in
-        let few = mul-le-mul (h .rows .1) (h .columns .1) in
         let long = ap length (d .lent) in
-        let can = can-in (readRows s (a .head .columns) (a .head .rows) (a .start)) (a .head .columns) (a .head .rows) (d .always)
-        (length (d .edges)) (d .before)
-        (walk-passes (a .head .columns) (a .head .rows) (d .always) (length (d .edges)) (omega (arith, h .columns .1))
-        (omega (arith, h .rows .1)) (d .often) (d .boxed))
-        (h .reads) (omega (arith, d .people-lent)) (omega (arith, d .cells-lent)) (omega (arith, d .room)) in
-        let holds = laid-holds h licences (d .always) (d .edges) (d .over) (d .before) (d .after) (d .laid) can in
-        let rest = laid-rest h licences (d .always) (d .edges) (d .over) (d .before) (d .after) (d .laid) can in
+        let holds = laid-holds h licences (d .always) (d .edges) (d .over) (d .before) (d .after) (d .laid) in
+        let rest = laid-rest h licences (d .always) (d .edges) (d .over) (d .before) (d .after) (d .laid) in
         let roomy : n ≤ length (d .after .mask) = omega (arith, d .room, d .mask-kept) in
         let people = d .people-kept ∙ d .people-lent in
         let cells = d .cells-kept ∙ d .cells-lent in

@@ -1,28 +1,30 @@
 -- A proposal of kind 3 shares one area of the map, and the share is above 0 and below the area's M. Assumes nothing.
-use Prim.Native.Nat.{ℕ, _-_, _<_}
+use Prim.Native.Nat.{ℕ, suc, _+_, _-_, _<_}
 use mathlib.Core.Path.{_≡_, refl, sym, ap, subst, _∙_}
 use mathlib.Core.Bool.{Bool, true, false, cond, false≢true}
 use mathlib.Core.Logic.{⊎-elim}
-use mathlib.Core.List.{List, [], _∷_, List·Memᴰ, List·Memᴰ·head, List·Memᴰ·tail, List·Memᴰ·not-nil, List·Memᴰ·cases-cons}
+use mathlib.Core.List.{List, [], _∷_, map, List·Memᴰ, List·Memᴰ·head, List·Memᴰ·tail, List·Memᴰ·not-nil, List·Memᴰ·cases-cons}
 use native.Mathlib.Omega.{arith}
 use lib.Dec.{ltb, eqb}
-use lib.ListN.{length}
+use lib.ListN.{length, getD}
 use borrow.Author.Tests.{ltb-true, eq-eqb, ne-eqb}
 use Rattle.lists.specs.Filters.{filter}
 use Rattle.lists.proofs.Tests.{by-test, first-of, second-of}
 use Rattle.map.specs.Format.{Area}
-use Rattle.map.specs.Answers.{some, locate}
+use Rattle.map.specs.Answers.{summary, some, locate}
 use Rattle.map.specs.Accepted.{Ascending}
 use Rattle.register.specs.declared.Licence.{Licence}
 use Rattle.coverage.specs.declared.Holding.{Holding}
 use Rattle.coverage.specs.Cover.{holdingOf, holdingsOf}
 use Rattle.coverage.specs.Blocks.{partial, size}
+use Rattle.coverage.specs.Answers.{noArea}
 use Rattle.search.specs.Choice.{Mark, out, whole, part}
 use Rattle.proposal.specs.Choices.{partials, totalValue, partAreas, wholeSize, share, allowedBy, allowed}
 use Rattle.proposal.specs.Best.{chosen}
 use Rattle.proposal.specs.Answer.{kindOf, getsBy, firstMark, laterMarks, given, refusedBy, answerOf, proposal, Proposal}
 use Rattle.proposal.proofs.Theorems.{is-allowed}
 use Rattle.footprint.specs.Footprint.{shares, sharedIn}
+use Rattle.footprint.specs.Code.{sharedFrom}
 
 -- ---- an area is located by its own number
 
@@ -57,36 +59,54 @@ module _ (a : Holding) (l : List Holding) where
   is-partial t = rw t
 
   module _ (sh : ℕ) where
-    passed : (c : List Mark) → partial a ≡ false → sharedIn (given 3 sh (a ∷ l) c) ≡ sharedIn (given 3 sh l c)
+    -- an area without a share is passed over, by number and by place
+    abbrev Passes : (c d : List Mark) → Type 0
+    Passes c d = (sharedIn (given 3 sh (a ∷ l) c) ≡ sharedIn (given 3 sh l d))
+        × ((k : ℕ) → sharedFrom k (given 3 sh (a ∷ l) c) ≡ sharedFrom (k + 1) (given 3 sh l d))
+
+    passed : (c : List Mark) → partial a ≡ false → Passes c c
     unfolding given
-    passed c t = rw t
+    passed c t = (rw t, λ k. rw t)
 
-    left-out : (c : List Mark) → partial a ≡ true → sharedIn (given 3 sh (a ∷ l) (out ∷ c)) ≡ sharedIn (given 3 sh l c)
+    left-out : (c : List Mark) → partial a ≡ true → Passes (out ∷ c) c
     unfolding given getsBy firstMark laterMarks
-    left-out c t = rw t
+    left-out c t = (rw t, λ k. rw t)
 
-    taken-whole : (c : List Mark) → partial a ≡ true → sharedIn (given 3 sh (a ∷ l) (whole ∷ c)) ≡ sharedIn (given 3 sh l c)
+    taken-whole : (c : List Mark) → partial a ≡ true → Passes (whole ∷ c) c
     unfolding given getsBy firstMark laterMarks
-    taken-whole c t = rw t
+    taken-whole c t = (rw t, λ k. rw t)
 
-    shared : (c : List Mark) → partial a ≡ true → sharedIn (given 3 sh (a ∷ l) (part ∷ c)) ≡ shares (a .number) sh
+    shared : (c : List Mark) → partial a ≡ true → (sharedIn (given 3 sh (a ∷ l) (part ∷ c)) ≡ shares (a .number) sh)
+        × ((k : ℕ) → sharedFrom k (given 3 sh (a ∷ l) (part ∷ c)) ≡ shares k sh)
     unfolding given getsBy firstMark
-    shared c t = rw t
+    shared c t = (rw t, λ k. rw t)
 
--- an area of the map that has the holding h and is the first to get a share
+-- an area of the map that has the holding h and is the first to get a share, with its place among the areas
 pub record FirstShare (areas : List Area) (licences : List Licence) (sh : ℕ) (c : List Mark) (h : Holding) : Type 0 where
   pub area : Area
   pub member : List·Memᴰ area areas
   pub held : h ≡ holdingOf licences area
   pub shared : sharedIn (given 3 sh (holdingsOf licences areas) c) ≡ shares (area .head .number) sh
+  pub place : ℕ
+  pub inside : place < length areas
+  pub stands : getD (map summary areas) place noArea ≡ summary area
+  pub placed : (k : ℕ) → sharedFrom k (given 3 sh (holdingsOf licences areas) c) ≡ shares (k + place) sh
 
 module _ (licences : List Licence) (sh : ℕ) where
   -- it stands among the later areas
   stands-later : (a : Area) (areas : List Area) (c d : List Mark) (h : Holding)
-      → sharedIn (given 3 sh (holdingsOf licences (a ∷ areas)) c) ≡ sharedIn (given 3 sh (holdingsOf licences areas) d)
+      → Passes (holdingOf licences a) (holdingsOf licences areas) sh c d
       → FirstShare areas licences sh d h → FirstShare (a ∷ areas) licences sh c h
-  stands-later a areas c d h q f =
-      record { area = f .area; member = List·Memᴰ·tail (f .member); held = f .held; shared = q ∙ f .shared }
+  stands-later a areas c d h q f = record {
+    area = f .area;
+    member = List·Memᴰ·tail (f .member);
+    held = f .held;
+    shared = q .0 ∙ f .shared;
+    place = suc (f .place);
+    inside = omega (arith, f .inside);
+    stands = f .stands;
+    placed = λ k. q .1 k ∙ f .placed (k + 1) ∙ ap (λ (n : ℕ). shares n sh) (omega arith);
+  }
 
   -- the first area is partial: the choice's next mark says what it gets
   first-here : (a : Area) (areas : List Area) (c : List Mark) (h : Holding) (l : List Holding)
@@ -103,7 +123,11 @@ module _ (licences : List Licence) (sh : ℕ) where
     area = a;
     member = List·Memᴰ·head refl;
     held = cc;
-    shared = shared (holdingOf licences a) (holdingsOf licences areas) sh c t;
+    shared = shared (holdingOf licences a) (holdingsOf licences areas) sh c t .0;
+    place = 0;
+    inside = omega arith;
+    stands = refl;
+    placed = λ k. shared (holdingOf licences a) (holdingsOf licences areas) sh c t .1 k ∙ ap (λ (n : ℕ). shares n sh) (omega arith);
   }
 
   -- the first area that a choice makes partial gets the share
@@ -124,7 +148,7 @@ module _ (licences : List Licence) (sh : ℕ) where
 
 -- ---- a proposal of kind 3
 
--- the area, and its share
+-- the area with its place among the areas, and its share
 pub record OneShare (areas : List Area) (licences : List Licence) (p : Proposal) : Type 0 where
   pub area : Area
   pub share : ℕ
@@ -133,6 +157,10 @@ pub record OneShare (areas : List Area) (licences : List Licence) (p : Proposal)
   -- "above 0 and below the M of the partial area"
   pub above : 0 < share
   pub below : share < size (holdingOf licences area)
+  pub place : ℕ
+  pub inside : place < length areas
+  pub stands : getD (map summary areas) place noArea ≡ summary area
+  pub placed : sharedFrom 0 (p .areas) ≡ shares place share
 
 -- kind 3 has a partial area
 kind-part : (sh : ℕ) (parts : List Holding) → kindOf sh parts ≡ 3 → (h : Holding) × (l : List Holding) × (parts ≡ h ∷ l)
@@ -173,6 +201,10 @@ module _ (areas : List Area) (licences : List Licence) (draw : ℕ) where
         shared = ap (λ (n : ℕ). sharedIn (given n sh held c)) k ∙ f .shared;
         above = b .0;
         below = subst (λ (h : Holding). sh < size h) (f .held) (b .1);
+        place = f .place;
+        inside = f .inside;
+        stands = f .stands;
+        placed = ap (λ (n : ℕ). sharedFrom 0 (given n sh held c)) k ∙ f .placed 0 ∙ ap (λ (n : ℕ). shares n sh) (omega arith);
       }
 
   -- a proposal that is not refused and is of kind 3 shares one area

@@ -1,41 +1,44 @@
--- From the proposal's outcome to the footprint's: each way through the code. Assumes nothing.
-use Prim.Native.Nat.{ℕ, _<_}
+-- From the holdings and the proposal to the footprint: each way through the code. Assumes nothing.
+use Prim.Native.Nat.{ℕ}
 use mathlib.Core.Path.{_≡_, refl, sym, ap, subst, _∙_}
-use mathlib.Core.List.{List}
+use mathlib.Core.List.{List, map}
 use native.Mathlib.Omega.{arith}
-use borrow.Author.Tests.{ne-eqb, eq-eqb}
+use lib.ListN.{length, getD, take, length-map}
+use lib.Seq.{getD-take}
 use Rattle.map.specs.Reading.{Read, bad, good}
 use Rattle.map.specs.Format.{Area, readMap}
+use Rattle.map.specs.declared.Area as handed
 use Rattle.map.specs.declared.Fault.{Fault}
 use Rattle.map.specs.declared.Fault.the-variants as fault
-use Rattle.map.specs.Answers.{faultNumber, Located, none, some, locate, lacking, located, lookUp}
-use Rattle.map.specs.Answers as looked
-use Rattle.map.proofs.Accepted.{accepted}
+use Rattle.map.specs.declared.Checked.the-variants as checked
+use Rattle.map.specs.Answers.{faultNumber, summary}
+use Rattle.map.specs.Accepted.{AreaHolds, MapHolds}
+use Rattle.map.proofs.Accepted.{accepted, locates}
 use Rattle.register.specs.declared.Licence.{Licence}
-use Rattle.coverage.specs.Cover.{holdingsOf}
-use Rattle.proposal.specs.Answer.{Proposal, refusedBy, proposal, proposalOn}
+use Rattle.coverage.specs.declared.Holding.{Holding}
+use Rattle.coverage.specs.declared.Holdings.{Holdings}
+use Rattle.coverage.specs.Cover.{holdingOf, holdingsOf}
+use Rattle.coverage.specs.Answers as answer
+use Rattle.coverage.specs.Answers.{noArea, checkedMeans, readingMeans, HoldingsDone}
+use Rattle.proposal.specs.declared.Outcome.{Outcome}
+use Rattle.proposal.specs.declared.Outcome.the-variants as outcome
+use Rattle.proposal.specs.declared.Proposal as proposed
+use Rattle.proposal.specs.Answer.{Proposal, proposal}
+use Rattle.proposal.specs.Contracts as proposes
+use Rattle.proposal.specs.Contracts.{refusalNumber, kindNumber, areaMeans, Answers}
+use Rattle.places.specs.Places.{IsGood}
 use Rattle.footprint.specs.declared.FootprintAnswer.{FootprintAnswer}
-use Rattle.footprint.specs.Footprint.{
-  partArea,
-  coveredCells,
-  Shared,
-  noShare,
-  shares,
-  sharedIn,
-  Footprint,
-  refused,
-  footprintOf,
-  inLocated,
-  inShared,
-  footprintBy,
-  footprintOn,
-}
+use Rattle.footprint.specs.declared.PartialArea.{PartialArea}
+use Rattle.footprint.specs.declared.PartialArea.the-variants.{Lacking, Found}
+use Rattle.footprint.specs.Footprint.{partArea, coveredCells, Footprint, refused, footprintOf, footprintBy, footprintOn}
 use Rattle.footprint.specs.Contracts.{reply, means, FootprintDone}
-use Rattle.footprint.specs.Code.{Fits}
+use Rattle.footprint.specs.Code.{sharedFrom, partAt, partBy, Readable, Fits}
 use Rattle.footprint.proofs.ShareLaws.{located-self, one-share}
+use Rattle.footprint.proofs.CaseLaws.{by-refusal, by-kind, share-is}
+use Rattle.footprint.proofs.TurnLaws.{proposal-shares}
 
 -- "Refused by the input": no refusal has the number 0
-pub fault-number : (f : Fault) → faultNumber f ≡ 0 → ⊥
+fault-number : (f : Fault) → faultNumber f ≡ 0 → ⊥
 fault-number fault.Ends e = omega arith
 fault-number fault.Limit e = omega arith
 fault-number fault.Extra e = omega arith
@@ -49,104 +52,129 @@ untouched n r mask table o e q =
     subst (λ (x : Footprint). FootprintDone x r mask mask table table) (sym q)
     (record { answer = e; bytes = refl; size = refl; unused = refl })
 
--- ---- by the proposal over a map's bytes
+-- the rows of an area of the map can be read
+pub readable : {s : List ℕ} {a : Area} {b : handed.Area} → AreaHolds s a → b ≡ summary a → Readable s b
+readable {s} {a} h e = subst (Readable s) (sym e) (record {
+  rows = h .rows .1;
+  columns = h .columns .1;
+  reads = subst IsGood (sym (h .reads)) tt;
+})
 
-module _ (licences : List Licence) (draw mask table : ℕ) where
-  pub by-refusal : (m : Read (List Area)) (n : ℕ) → proposalOn m licences draw .refused ≡ n → (n ≡ 0 → ⊥)
-      → footprintOn m licences draw mask table ≡ refused n
-  unfolding footprintOn footprintBy proposalOn refusedBy
-  by-refusal (bad k) n e z = ap refused e
-  by-refusal (good areas end) n e z =
-      let p = proposal (holdingsOf licences areas) draw in
-      simp (ne-eqb (p .refused) 0 (λ q. z (sym e ∙ q))) (ap refused e)
+-- ---- what comes of a partial area, whatever is lent
 
-  pub by-kind : (m : Read (List Area)) → proposalOn m licences draw .refused ≡ 0 → 0 < proposalOn m licences draw .kind
-      → (proposalOn m licences draw .kind ≡ 3 → ⊥) → footprintOn m licences draw mask table ≡ refused 13
-  unfolding footprintOn footprintBy proposalOn refusedBy
-  by-kind (bad k) e above z = absurd (omega arith)
-  by-kind (good areas end) e above z =
-      let p = proposal (holdingsOf licences areas) draw in
-      simp (eq-eqb (p .refused) 0 e, ne-eqb (p .kind) 3 z)
+module _ (s : List ℕ) (licences : List Licence) (draw : ℕ) where
+  -- none: 12 or 13
+  pub record NoPart (r : FootprintAnswer) : Type 0 where
+    pub number : ℕ
+    pub told : means r ≡ reply number 0 0
+    pub comes : (mask table : ℕ) → footprintOn (readMap s) licences draw mask table ≡ refused number
 
-  -- kind 3: the map is accepted, and its area that gets the share counts
-  pub record ByPart (m : Read (List Area)) : Type 0 where
-    pub areas : List Area
-    pub end : ℕ
-    pub reads : m ≡ good areas end
-    pub comes : footprintOn m licences draw mask table ≡ inShared areas licences mask table (sharedIn (proposalOn m licences draw .areas))
+  -- the area that `b` stands for: 7, 8 or its footprint
+  pub record HasPart (b : handed.Area) (share : ℕ) : Type 0 where
+    pub area : Area
+    pub handed : b ≡ summary area
+    pub holds : AreaHolds s area
+    pub fits : Fits licences share area
+    pub comes : (mask table : ℕ) → footprintOn (readMap s) licences draw mask table
+        ≡ footprintOf (area .head .number) (partArea area) share (coveredCells licences area) mask table
 
-  pub by-part : (m : Read (List Area)) → proposalOn m licences draw .refused ≡ 0 → proposalOn m licences draw .kind ≡ 3 → ByPart m
-  unfolding footprintOn footprintBy proposalOn refusedBy
-  by-part (bad k) e q = absurd (omega arith)
-  by-part (good areas end) e q =
-      let p = proposal (holdingsOf licences areas) draw in
-      record {
-        areas = areas;
-        end = end;
-        reads = refl;
-        comes = simp (eq-eqb (p .refused) 0 e, eq-eqb (p .kind) 3 q);
-      }
+  abbrev pub ComesOf : PartialArea → Type 0
+  ComesOf (Lacking r) = NoPart r
+  ComesOf (Found b share) = HasPart b (share .0)
 
--- the number and the amount of a share
-numberOf : Shared → ℕ
-numberOf noShare = 0
-numberOf (shares number share) = number
+-- ---- over an accepted map
 
-shareOf : Shared → ℕ
-shareOf noShare = 0
-shareOf (shares number share) = share
-
--- the share of an accepted map's proposal fits its area
-pub share-fits : (s : List ℕ) (licences : List Licence) (draw : ℕ) (areas : List Area) (end : ℕ) → readMap s ≡ good areas end
-    → proposalOn (readMap s) licences draw .refused ≡ 0 → proposalOn (readMap s) licences draw .kind ≡ 3
-    → (number share : ℕ) (a : Area) → sharedIn (proposalOn (readMap s) licences draw .areas) ≡ shares number share
-    → locate number areas ≡ some a → Fits licences share a
-unfolding proposalOn numberOf shareOf
-share-fits s licences draw areas end reads e q number share a known found =
-    let on = ap (λ (m : Read (List Area)). proposalOn m licences draw) (sym reads) in
-    let one = one-share areas licences draw
-    (ap (λ (p : Proposal). p .refused) on ∙ e) (ap (λ (p : Proposal). p .kind) on ∙ q) in
-    let same = sym (one .shared) ∙ ap (λ (p : Proposal). sharedIn (p .areas)) on ∙ known in
-    let here = located-self 0 areas (accepted s areas end reads .ascending) (one .area) (one .member) in
-    let both : some (one .area) ≡ some a = sym here ∙ ap (λ (k : ℕ). locate k areas) (ap numberOf same) ∙ found in
-    let area : one .area ≡ a = cc in
-    subst (λ (x : Area). Fits licences share x) area
-    (subst (λ (k : ℕ). Fits licences k (one .area)) (ap shareOf same) (one .above, one .below))
-
--- ---- by what is looked up
-
-module _ (licences : List Licence) (mask table : ℕ) where
-  pub found-is : (areas : List Area) (number share : ℕ) (a : Area) (s : Shared) → s ≡ shares number share → locate number areas ≡ some a
-      → inShared areas licences mask table s
-      ≡ footprintOf (a .head .number) (partArea a) share (coveredCells licences a) mask table
-  found-is areas number share a s e found =
-      ap (inShared areas licences mask table) e ∙ ap (inLocated licences share mask table) found
-
-  pub lacking-is : (m : Read (List Area)) (areas : List Area) (end : ℕ) → m ≡ good areas end → (number share : ℕ) (s : Shared)
-      → s ≡ shares number share → lacking ≡ lookUp number m → inShared areas licences mask table s ≡ refused 13
-  unfolding lookUp
-  lacking-is m areas end reads number share s e l =
-      ap (inShared areas licences mask table) e
-      ∙ by (locate number areas) (l ∙ ap (lookUp number) reads)
-    where
-      by : (g : Located) → lacking ≡ located g → inLocated licences share mask table g ≡ refused 13
-      by none v = refl
-      by (some a) v = absurd (let z : _≡_ {A = ℕ} 0 1 = cc in omega arith)
-
--- two readings of one map have the same areas
-pub located-in : {m : Read (List Area)} {xs ys : List Area} {d e : ℕ} (number : ℕ) {a : Area} → m ≡ good xs d → m ≡ good ys e
-    → locate number xs ≡ some a → locate number ys ≡ some a
-located-in {m} {xs} {ys} {d} {e} number {a} p q found =
-    let one : good xs d ≡ good ys e = sym p ∙ q in
-    let same : xs ≡ ys = cc in
-    subst (λ (l : List Area). locate number l ≡ some a) same found
-
--- an accepted map is not refused where it is looked up
-pub not-refused : (m : Read (List Area)) (areas : List Area) (end : ℕ) → m ≡ good areas end → (number f : ℕ)
-    → looked.refused f ≡ lookUp number m → ⊥
-unfolding lookUp
-not-refused m areas end reads number f e = by (locate number areas) (e ∙ ap (lookUp number) reads)
+-- its areas, where they stand, and the proposal that was made from their holdings
+module _ (s : List ℕ) {areas : List Area} {end : ℕ} (reads : readMap s ≡ good areas end) (licences : List Licence) (draw : ℕ)
+    (stands : List handed.Area) (count : ℕ) (size : count ≡ length areas) (told : take count stands ≡ map summary areas)
+    (r : proposed.Proposal) (a : Answers (proposal (holdingsOf licences areas) draw) r)
   where
-    by : (g : Located) → looked.refused f ≡ located g → ⊥
-    by none v = let z : _≡_ {A = ℕ} 0 1 = cc in omega arith
-    by (some a) v = let z : _≡_ {A = ℕ} 0 1 = cc in omega arith
+    abbrev p : Proposal
+    p = proposal (holdingsOf licences areas) draw
+
+    holds : MapHolds s areas
+    holds = accepted s areas end reads
+
+    on : (mask table : ℕ) → footprintOn (readMap s) licences draw mask table ≡ footprintBy areas licences mask table p
+    unfolding footprintOn
+    on mask table = ap (λ (m : Read (List Area)). footprintOn m licences draw mask table) reads
+
+    -- the proposal's refusal and kind, by its outcome
+    refusal : {o : Outcome} → r .outcome ≡ o → p .refused ≡ refusalNumber o
+    unfolding proposes.means
+    refusal e = ap (λ (x : Proposal). x .refused) (sym (a .meaning)) ∙ ap refusalNumber e
+
+    kind : {o : Outcome} → r .outcome ≡ o → p .kind ≡ kindNumber o
+    unfolding proposes.means
+    kind e = ap (λ (x : Proposal). x .kind) (sym (a .meaning)) ∙ ap kindNumber e
+
+    -- a refusal
+    refuses : (x : FootprintAnswer) (n : ℕ) → means x ≡ reply n 0 0 → p .refused ≡ n → (n ≡ 0 → ⊥) → NoPart s licences draw x
+    refuses x n t e z = record {
+      number = n;
+      told = t;
+      comes = λ mask table. on mask table ∙ by-refusal areas licences mask table p (λ q. z (sym e ∙ q)) ∙ ap refused e;
+    }
+
+    -- kinds 1 and 2
+    not-three : (x : FootprintAnswer) (n : ℕ) → means x ≡ reply 13 0 0 → p .refused ≡ 0 → p .kind ≡ n → (n ≡ 3 → ⊥)
+        → NoPart s licences draw x
+    not-three x n t e k z = record {
+      number = 13;
+      told = t;
+      comes = λ mask table. on mask table ∙ by-kind areas licences mask table p e (λ q. z (sym k ∙ q));
+    }
+
+    -- kind 3: the area at the place of the share
+    part : p .refused ≡ 0 → p .kind ≡ 3 → ComesOf s licences draw (partAt stands (sharedFrom 0 (map areaMeans (r .areas))))
+    part e k =
+        let q = one-share areas licences draw e k in
+        let inside = q .inside in
+        let found = locates s (q .area .head .number) areas (holds .each) (q .area)
+        (located-self 0 areas (holds .ascending) (q .area) (q .member)) in
+        subst (λ x. ComesOf s licences draw (partAt stands x)) (sym (proposal-shares p r a ∙ q .placed)) (record {
+          area = q .area;
+          handed = sym (getD-take count stands (q .place) noArea (omega arith))
+              ∙ ap (λ (l : List handed.Area). getD l (q .place) noArea) told
+              ∙ q .stands;
+          holds = found .1;
+          fits = (q .above, q .below);
+          comes = λ mask table. on mask table ∙ share-is holds licences draw mask table e k q;
+        })
+
+    by-outcome : ComesOf s licences draw (partBy stands (r .outcome) (sharedFrom 0 (map areaMeans (r .areas))))
+    by-outcome = go (r .outcome) refl
+      where
+        go : (o : Outcome) → r .outcome ≡ o → ComesOf s licences draw (partBy stands o (sharedFrom 0 (map areaMeans (r .areas))))
+        go (outcome.Refused f) e = refuses _ (faultNumber f) refl (refusal e) (fault-number f)
+        go outcome.TooMany e = refuses _ 12 refl (refusal e) (λ z. omega arith)
+        go outcome.Exact e = not-three _ 1 refl (refusal e) (kind e) (λ z. omega arith)
+        go outcome.RoundedUp e = not-three _ 2 refl (refusal e) (kind e) (λ z. omega arith)
+        go outcome.OnePart e = part (refusal e) (kind e)
+
+-- ---- by the holdings of a map
+
+module _ (s : List ℕ) (licences : List Licence) (h : Holdings) (d : HoldingsDone licences (readMap s) h) (draw : ℕ) where
+  -- a map that is refused
+  pub map-refused : (f : Fault) → h .checked ≡ checked.Refused f → (mask table : ℕ)
+      → footprintOn (readMap s) licences draw mask table ≡ refused (faultNumber f)
+  unfolding footprintOn
+  map-refused f e mask table = go (readMap s) (sym (ap checkedMeans e) ∙ d .answer)
+    where
+      go : (m : Read (List Area)) → answer.refused (faultNumber f) ≡ readingMeans m
+          → footprintOn m licences draw mask table ≡ refused (faultNumber f)
+      go (bad n) q = let same : n ≡ faultNumber f = cc in ap refused same
+      go (good areas end) q = absurd (let z : _≡_ {A = ℕ} 0 1 = cc in omega arith)
+
+  -- a map that is accepted: the proposal is made from its holdings
+  pub map-accepted : h .checked ≡ checked.Accepted → (r : proposed.Proposal) → Answers (proposal (take (h .count) (h .areas)) draw) r
+      → ComesOf s licences draw (partBy (h .stands) (r .outcome) (sharedFrom 0 (map areaMeans (r .areas))))
+  map-accepted e r a = go (readMap s) refl (sym (ap checkedMeans e) ∙ d .answer)
+    where
+      go : (m : Read (List Area)) → readMap s ≡ m → answer.answers tt ≡ readingMeans m
+          → ComesOf s licences draw (partBy (h .stands) (r .outcome) (sharedFrom 0 (map areaMeans (r .areas))))
+      go (bad n) q z = absurd (let z : _≡_ {A = ℕ} 0 1 = cc in omega arith)
+      go (good areas end) q z =
+          let f = subst (λ m. HoldingsDone licences m h) q d in
+          by-outcome s q licences draw (h .stands) (h .count) (f .count ∙ length-map areas (holdingOf licences)) (f .stands) r
+          (subst (λ (l : List Holding). Answers (proposal l draw) r) (f .each) a)

@@ -15,12 +15,19 @@ use Rattle.footprint.specs.Contracts.{Reply, reply, replyOf, maskAfter, 
 -- ---- what a row is made of
 
 -- an area by its number, weight, population and c. "Weight 1 unless said; A, B, .. ascending": A, B, .. are 1, 2, ..
+-- The holdings say nothing of cells (document 02, Paper 1): 0 here
 abbrev pub area : (number weight pop c : ℕ) → Holding
-area number weight pop c = record { number = number; weight = weight; population = record { 0 = pop }; covered = record { 0 = c } }
+area number weight pop c = record {
+  number = number;
+  weight = weight;
+  population = record { 0 = pop };
+  covered = record { 0 = c };
+  cells = record { 0 = 0 };
+}
 
 -- what an area of the map is given: its number, its whole blocks and what it gets
 abbrev pub gives : (number blocks : ℕ) → Gets → Given
-gives number blocks gets = record { number = number; blocks = blocks; gets = gets }
+gives number blocks gets = record { number = number; blocks = blocks; cells = 0; gets = gets }
 
 -- the proposal of a kind that is not refused
 abbrev pub proposed : (kind target white tied : ℕ) → List Given → Proposal

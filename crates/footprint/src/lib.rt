@@ -1,23 +1,23 @@
 // Document 01, "The footprint": the cells that a carrier keeps of the one area that it holds in part. The way in is footprint.
 use map::Area;
+use map::Checked;
 use map::Fault;
-use map::Found;
 use proposal::AreaAnswer;
 use proposal::Gets;
 use proposal::Outcome;
+use proposal::Proposal;
 use register::Register;
 use rounds::Answer;
 use units::Weighted;
 ghost use mathlib.Core.Path.{_≡_};
 ghost use mathlib.Core.List.{map as each};
-ghost use Prim.Native.Nat.{_≤_};
 ghost use lib.ListN.{length};
 ghost use Rattle.map.specs.Format.{readMap};
 ghost use Rattle.register.specs.Licences.{inForce};
 ghost use Rattle.proposal.specs.Contracts.{areaMeans};
-ghost use Rattle.footprint.specs.Footprint.{sharedIn, footprintOn};
+ghost use Rattle.footprint.specs.Footprint.{footprintOn};
 ghost use Rattle.footprint.specs.Contracts.{FootprintDone, means};
-ghost use Rattle.footprint.specs.Code.{sharedMeans, Outlines, OutlinesShared};
+ghost use Rattle.footprint.specs.Code.{sharedFrom, sharedMeans, placeWithin, partBy, Readable, Outlines};
 
 // The number of the area whose footprint is made, or why there is none.
 pub enum FootprintAnswer {
@@ -34,10 +34,16 @@ pub enum FootprintAnswer {
     Made(u16),
 }
 
-// The number of the area that gets a share, and the share.
-pub enum AreaShare {
+// The place of the area that gets a share among the areas of the map, and the share.
+enum AreaShare {
     Nowhere,
-    At(u16, Weighted),
+    At(usize, Weighted),
+}
+
+// The area that a proposal shares, by where its rows stand, and the share; or the answer where there is none.
+enum PartialArea {
+    Lacking(FootprintAnswer),
+    Found(Area, Weighted),
 }
 
 impl FootprintAnswer {
@@ -58,7 +64,7 @@ impl FootprintAnswer {
 
 // The area that gets a share, one area a turn.
 fn share_in(areas: [AreaAnswer; 32]) -> AreaShare
-    ensures { λ r. ⌜ sharedMeans r ≡ sharedIn (each areaMeans areas) ⌝ }
+    ensures { λ r. ⌜ (sharedMeans r ≡ sharedFrom 0 (each areaMeans areas)) × placeWithin 32 r ⌝ }
 {
     let mut i: usize = 0;
     while i < 32 {
@@ -66,7 +72,7 @@ fn share_in(areas: [AreaAnswer; 32]) -> AreaShare
         let gets = a.gets;
         match gets {
             Gets::Share(share) => {
-                return AreaShare::At(a.number, share);
+                return AreaShare::At(i, share);
             }
             Gets::Nothing => {}
             Gets::Whole => {}
@@ -75,6 +81,29 @@ fn share_in(areas: [AreaAnswer; 32]) -> AreaShare
         i += 1;
     }
     AreaShare::Nowhere
+}
+
+// The partial area of a proposal: stands are the areas of the map, at the same places as the proposal's.
+fn partial_area(p: Proposal, stands: [Area; 32]) -> PartialArea
+    ensures { λ r. ⌜ r ≡ partBy stands (p .outcome) (sharedFrom 0 (each areaMeans (p .areas))) ⌝ }
+{
+    let outcome = p.outcome;
+    match outcome {
+        Outcome::Refused(f) => PartialArea::Lacking(FootprintAnswer::Refused(f)),
+        Outcome::TooMany => PartialArea::Lacking(FootprintAnswer::TooMany),
+        Outcome::Exact => PartialArea::Lacking(FootprintAnswer::NotOnePart),
+        Outcome::RoundedUp => PartialArea::Lacking(FootprintAnswer::NotOnePart),
+        Outcome::OnePart => {
+            let areas = p.areas;
+            match share_in(areas) {
+                AreaShare::Nowhere => PartialArea::Lacking(FootprintAnswer::NotOnePart),
+                AreaShare::At(i, share) => {
+                    let a = stands[i];
+                    PartialArea::Found(a, share)
+                }
+            }
+        }
+    }
 }
 
 // The footprint of an area for a share: its cells are laid out by place, the covered ones in the mask, and the rounds start from them.
@@ -86,7 +115,7 @@ fn outline(
     mask: &mut [u8],
     table: &mut [u16],
 ) -> FootprintAnswer
-    requires { ⌜ (a .rows ≤ 256) × (a .columns ≤ 256) ⌝ }
+    requires { ⌜ Readable (now map) a ⌝ }
     ensures { λ r. ⌜ Outlines (now (map .entry)) (inForce (register .places)) a (share .0) r
         (record { mask = now (mask .entry); after = now (mask .exit); table = now (table .entry); entries = now (table .exit) }) ⌝ }
 {
@@ -126,29 +155,8 @@ fn outline(
     }
 }
 
-// The footprint of the area that a proposal shares.
-fn outline_shared(
-    map: &[u8],
-    register: Register,
-    shared: AreaShare,
-    mask: &mut [u8],
-    table: &mut [u16],
-) -> FootprintAnswer
-    ensures { λ r. ⌜ OutlinesShared (now (map .entry)) (inForce (register .places)) (sharedMeans shared) r
-        (record { mask = now (mask .entry); after = now (mask .exit); table = now (table .entry); entries = now (table .exit) }) ⌝ }
-{
-    match shared {
-        AreaShare::Nowhere => FootprintAnswer::NotOnePart,
-        AreaShare::At(number, share) => match map::look_up(map, number) {
-            Found::Refused(f) => FootprintAnswer::Refused(f),
-            Found::Lacking => FootprintAnswer::NotOnePart,
-            Found::At(a) => outline(map, register, a, share, mask, table),
-        },
-    }
-}
-
 // The footprint of the partial area of the proposal with a draw, for a map and the licences in force. The mask gets a byte for each
-// place of the area, 1 in the footprint; the table is working store.
+// place of the area, 1 in the footprint; the table is working store. The map is read once, and then the rows of that area once more.
 pub fn footprint(
     map: &[u8],
     register: Register,
@@ -161,16 +169,18 @@ pub fn footprint(
         (length (now (mask .entry))) (length (now (table .entry)))) r
         (now (mask .entry)) (now (mask .exit)) (now (table .entry)) (now (table .exit)) ⌝ }
 {
-    let p = proposal::propose(map, register, draw);
-    let outcome = p.outcome;
-    match outcome {
-        Outcome::Refused(f) => FootprintAnswer::Refused(f),
-        Outcome::TooMany => FootprintAnswer::TooMany,
-        Outcome::Exact => FootprintAnswer::NotOnePart,
-        Outcome::RoundedUp => FootprintAnswer::NotOnePart,
-        Outcome::OnePart => {
-            let areas = p.areas;
-            outline_shared(map, register, share_in(areas), mask, table)
+    let held = coverage::parts::holdings_in(map, register);
+    let checked = held.checked;
+    match checked {
+        Checked::Refused(f) => FootprintAnswer::Refused(f),
+        Checked::Accepted => {
+            let areas = held.areas;
+            let stands = held.stands;
+            let p = proposal::parts::propose_from(areas, held.count, draw);
+            match partial_area(p, stands) {
+                PartialArea::Lacking(answer) => answer,
+                PartialArea::Found(a, share) => outline(map, register, a, share, mask, table),
+            }
         }
     }
 }

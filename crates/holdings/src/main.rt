@@ -267,7 +267,12 @@ fn covered(map: &[u8], register: Register, number: u16) {
     print(b"coverage", number as u64);
     match coverage::coverage(map, register, number) {
         CoverageAnswer::Refused(f) => print(b" refused", f.number() as u64),
-        CoverageAnswer::Covered(people) => print(b" people", people.0),
+        CoverageAnswer::Covered(sums) => {
+            let people = sums.people;
+            print(b" people", people.0);
+            let cells = sums.cells;
+            print(b" cells", cells.0);
+        }
     }
     match coverage::blocks(map, register, number) {
         BlocksAnswer::Refused(f) => print(b" refused", f.number() as u64),
@@ -326,6 +331,8 @@ fn given(areas: [AreaAnswer; 32], count: usize) {
             let a = areas[i];
             print(b" area", a.number as u64);
             print(b"  blocks", a.blocks);
+            let cells = a.cells;
+            print(b"  cells", cells.0);
             let gets = a.gets;
             match gets {
                 Gets::Nothing => line(b"  nothing"),

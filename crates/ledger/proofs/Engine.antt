@@ -1,12 +1,17 @@
 -- Document 01, "The list of demand 3", through the engine's own functions: they keep the laws of an interface, so demand 3 holds of
 -- them. Assumes nothing.
-use mathlib.Core.Path.{_≡_, refl, ap}
+use Prim.Native.Nat.{ℕ}
+use mathlib.Core.Path.{_≡_, refl, sym, ap, _∙_}
+use mathlib.Core.List.{List, map}
+use Rattle.map.specs.Format.{Area}
+use Rattle.register.specs.declared.Licence.{Licence}
 use Rattle.register.specs.Rules.{grantNumber, cancelNumber}
 use Rattle.proposal.specs.declared.Proposal as proposed
-use Rattle.proposal.specs.Answer.{Proposal}
+use Rattle.proposal.specs.Answer.{Proposal, cellsShown}
 use Rattle.proposal.specs.Contracts.{refusalNumber, means, Answers}
 use Rattle.demand3.specs.Calls.{Call, grant, cancel, propose, footprint}
-use Rattle.demand3.specs.Right.{Demand3}
+use Rattle.demand3.specs.Interface.{Saying}
+use Rattle.demand3.specs.Right.{cellsOf, Right, Demand3}
 use Rattle.demand3.proofs.Lawful.{Lawful, Laws, proposing-lawful, outlining-lawful}
 use Rattle.demand3.proofs.Lists.{demand-3}
 use Rattle.ledger.specs.Engine.{function, engine}
@@ -36,3 +41,10 @@ laws = record { empty-asks-nothing = tt; empties = λ e. e; each = lawful }
 
 pub engine-demand-3 : Demand3 engine
 engine-demand-3 = demand-3 engine laws
+
+-- document 02, Paper 1: "The proposal shows the sum of cells for each map area": a right answer's own entries, by the ledger's lines
+pub engine-cells : (areas : List Area) (lines : List Licence) (draw : ℕ) (a : proposed.Proposal)
+    → Saying (function (propose draw)) a (Right areas lines (propose draw)) → refusalNumber (a .outcome) ≡ 0
+    → cellsShown (means a) ≡ map (cellsOf lines) areas
+engine-cells areas lines draw a s z =
+    ap cellsShown (s .says .meaning) ∙ s .holds .cells (sym (proposal-number a (s .outcome) (s .says)) ∙ z)

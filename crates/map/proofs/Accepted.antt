@@ -1,17 +1,15 @@
 -- What holds of an accepted map and of an area that is looked up in it. Assumes nothing.
-use Prim.Native.Nat.{ℕ, zero, suc, _-_, _≤_}
-use mathlib.Core.Path.{_≡_, refl, sym, ap, subst}
+use Prim.Native.Nat.{ℕ, zero, suc, _≤_}
+use mathlib.Core.Path.{_≡_, refl, sym, ap, _∙_, subst}
 use mathlib.Core.List.{List, [], _∷_}
 use mathlib.Core.Bool.{Bool, true, false, cond}
 use native.Mathlib.Omega.{arith}
 use borrow.Author.Tests.{eqb-true}
 use lib.Dec.{eqb}
-use lib.IntN.{ℤ}
 use lib.ListN.{length}
-use Rattle.map.specs.Reading.{Read, bad, good, mapRead}
-use Rattle.map.specs.Format.{within, u8Field, Place, population, readRows, readHead, readBody, readArea, readAreas}
+use Rattle.map.specs.Reading.{Read, bad, good}
+use Rattle.map.specs.Format.{within, u8Field, population, readRows, readHead, readBody, readArea, readAreas}
 use Rattle.map.specs.Format.{readRest, readMap, Area}
-use Rattle.map.specs.Counting.{gridPeople}
 use Rattle.map.specs.Answers.{
   summary,
   Located,
@@ -24,6 +22,8 @@ use Rattle.map.specs.Answers.{
   has,
   located,
   lookUp,
+  locatedAs,
+  seek,
   between,
   rowsPart,
   partOf,
@@ -100,24 +100,12 @@ gives-map s =
 pub accepted : (s : List ℕ) (areas : List Area) (e : ℕ) → readMap s ≡ good areas e → MapHolds s areas
 accepted s areas e q = subst (Gives (λ l e. MapHolds s l)) q (gives-map s)
 
--- what the walk over an area counts, on the whole map and on the area's part
-module _ {s : List ℕ} {a : Area} (h : AreaHolds s a) (always : ℕ) (edges : List ℤ) where
-  abbrev people : Read (List (List Place)) → Read ℕ
-  people = mapRead (gridPeople always edges)
-
-  pub counts-in-map : people (readRows s (a .head .columns) (a .head .rows) (a .start)) ≡ good (gridPeople always edges (a .grid)) (a .end)
-  counts-in-map = ap people (h .reads)
-
-  pub counts-in-part : people (readRows (between s (a .start) (a .end)) (a .head .columns) (a .head .rows) 0)
-      ≡ good (gridPeople always edges (a .grid)) (a .end - a .start)
-  counts-in-part = ap people (h .part)
-
 -- ---- an area that is looked up
 
--- the area that `b` is handed out for
-pub record Stands (s : List ℕ) (n : ℕ) (areas : List Area) (b : handed.Area) : Type 0 where
+-- the area of which `b` is handed out, as f makes it
+pub record Stands {A : Type 0} (f : Area → A) (s : List ℕ) (n : ℕ) (areas : List Area) (b : A) : Type 0 where
   pub area : Area
-  pub handed : b ≡ summary area
+  pub handed : b ≡ f area
   pub numbered : area .head .number ≡ n
   pub found : locate n areas ≡ some area
   pub holds : AreaHolds s area
@@ -137,18 +125,18 @@ locates s n (b ∷ l) x a q = go (locates s n l (x .1) a) (eqb (b .head .number)
     go f false e w = f w
 
 -- a look-up that has an area: the map is accepted and the area stands in it
-pub record LookedUpIn (s : List ℕ) (n : ℕ) (b : handed.Area) : Type 0 where
+pub record LookedUpIn {A : Type 0} (f : Area → A) (s : List ℕ) (n : ℕ) (b : A) : Type 0 where
   pub areas : List Area
   pub next : ℕ
   pub reads : readMap s ≡ good areas next
-  pub stands : Stands s n areas b
+  pub stands : Stands f s n areas b
 
-pub looked-up : (s : List ℕ) (n : ℕ) (b : handed.Area) → has b ≡ lookUp n (readMap s) → LookedUpIn s n b
-unfolding lookUp
-looked-up s n b q = from (readMap s) refl q
+pub sought-up : {A : Type 0} (f : Area → A) (s : List ℕ) (n : ℕ) (b : A) → has b ≡ seek f n (readMap s) → LookedUpIn f s n b
+unfolding seek
+sought-up f s n b q = from (readMap s) refl q
   where
     by : (areas : List Area) (e : ℕ) → readMap s ≡ good areas e
-        → (g : Located) → locate n areas ≡ g → has b ≡ located g → LookedUpIn s n b
+        → (g : Located) → locate n areas ≡ g → has b ≡ locatedAs f g → LookedUpIn f s n b
     by areas e r none w v = absurd (let z : _≡_ {A = ℕ} 0 1 = cc in omega arith)
     by areas e r (some a) w v =
         let h = locates s n areas (accepted s areas e r .each) a w in
@@ -159,12 +147,25 @@ looked-up s n b q = from (readMap s) refl q
           stands = record { area = a; handed = cc; numbered = h .0; found = w; holds = h .1 };
         }
 
-    from : (m : Read (List Area)) → readMap s ≡ m → has b ≡ lookUp n m → LookedUpIn s n b
-    from (bad f) r v = absurd (let z : _≡_ {A = ℕ} 0 1 = cc in omega arith)
+    from : (m : Read (List Area)) → readMap s ≡ m → has b ≡ seek f n m → LookedUpIn f s n b
+    from (bad x) r v = absurd (let z : _≡_ {A = ℕ} 0 1 = cc in omega arith)
     from (good areas e) r v = by areas e r (locate n areas) refl v
 
+-- what is looked up is what is sought of it
+look-up-seeks : (n : ℕ) (r : Read (List Area)) → lookUp n r ≡ seek summary n r
+unfolding lookUp seek
+look-up-seeks n (bad f) = refl
+look-up-seeks n (good l e) = by (locate n l)
+  where
+    by : (g : Located) → located g ≡ locatedAs summary g
+    by none = refl
+    by (some a) = refl
+
+pub looked-up : (s : List ℕ) (n : ℕ) (b : handed.Area) → has b ≡ lookUp n (readMap s) → LookedUpIn summary s n b
+looked-up s n b q = sought-up summary s n b (q ∙ look-up-seeks n (readMap s))
+
 -- the area's part lies inside the map
-pub inside-of : {s : List ℕ} {n : ℕ} {b : handed.Area} → LookedUpIn s n b → (b .start ≤ b .end) × (b .end ≤ length s)
+pub inside-of : {s : List ℕ} {n : ℕ} {b : handed.Area} → LookedUpIn summary s n b → (b .start ≤ b .end) × (b .end ≤ length s)
 inside-of {s} l =
     subst (λ (x : handed.Area). (x .start ≤ x .end) × (x .end ≤ length s)) (sym (l .stands .handed)) (l .stands .holds .inside)
 

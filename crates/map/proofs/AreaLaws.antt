@@ -1,18 +1,16 @@
 -- Laws of areas and of the loop over them. Assumes nothing.
 use Prim.Native.Nat.{ℕ, _+_, _-_, _≤_, _<_}
-use mathlib.Core.Path.{_≡_, refl, sym, ap, _∙_, fun-ext}
+use mathlib.Core.Path.{_≡_, refl, sym, ap, _∙_}
 use mathlib.Core.List.{List, [], _∷_}
 use mathlib.Core.Bool.{Bool, true, false, cond}
 use native.Mathlib.Omega.{arith}
-use native.Mathlib.Nat.{mul-one}
+use borrow.Author.Tests.{eq-eqb, ne-eqb}
 use lib.Dec.{eqb}
+use lib.IntN.{ℤ}
 use lib.ListN.{length}
 use Rattle.map.specs.Reading.{Read, bad, good, bind, mapRead}
 use Rattle.map.specs.Format.{
   Place,
-  gap,
-  cell,
-  peopleAt,
   population,
   within,
   Head,
@@ -23,27 +21,31 @@ use Rattle.map.specs.Format.{
   readAreas,
   readRest,
 }
-use Rattle.lists.specs.Sums.{total, count}
-use Rattle.map.specs.Counting.{boxesOver, placePeople, gridPeople}
+use Rattle.map.specs.Counting.{gridCounts}
 use Rattle.map.specs.Answers.{
-  summary,
+  countedArea,
+  countedFor,
   Located,
   none,
   some,
   locate,
   LookedUp,
+  SoughtOf,
   refused,
   lacking,
   has,
   located,
   lookUp,
-  foundMeans,
+  locatedAs,
+  seek,
+  soughtMeans,
   kept,
   numberOf,
 }
-use Rattle.map.specs.declared.Area as handed
-use Rattle.map.specs.declared.Found.{Found}
-use Rattle.map.specs.declared.Found.the-variants as found
+use Rattle.map.specs.declared.parts.Counts.{Counts}
+use Rattle.map.specs.declared.parts.CountedArea.{CountedArea}
+use Rattle.map.specs.declared.parts.Sought.{Sought}
+use Rattle.map.specs.declared.parts.Sought.the-variants as sought
 use Rattle.lists.proofs.Tests.{takes, leaves}
 use Rattle.map.proofs.FieldLaws.{bind-bad}
 use Rattle.map.proofs.LoopLaws.{sub-step, sub-end}
@@ -53,30 +55,24 @@ pub map-bad : {A B : Type 0} (g : A → B) (r : Read A) {f : ℕ} → bad f ≡ 
 map-bad g (bad x) q = cc
 map-bad g (good a e) q = cc
 
--- ---- the population: each cell once, and no box
-
-once : (p : Place) → placePeople 1 [] p ≡ peopleAt p
-unfolding placePeople boxesOver count
-once gap = refl
-once (cell c) = mul-one (c .people)
-
-pub counts-population : gridPeople 1 [] ≡ population
-counts-population = ap (λ (f : Place → ℕ). total (total f)) (fun-ext once)
-
 -- ---- the rows after a head
 
-abbrev pub summed : Head → ℕ → ℕ → ℕ → handed.Area
-summed h start p e = record {
-  number = h .number;
-  weight = h .weight;
-  rows = h .rows;
-  columns = h .columns;
-  population = record { 0 = p };
-  start = start;
-  end = e;
+-- what is handed out of an area whose rows end at e
+abbrev pub handedOut : Head → ℕ → Counts → ℕ → CountedArea
+handedOut h start c e = record {
+  area = record {
+    number = h .number;
+    weight = h .weight;
+    rows = h .rows;
+    columns = h .columns;
+    population = c .people;
+    start = start;
+    end = e;
+  };
+  counts = c;
 }
 
-module _ (s : List ℕ) (h : Head) (start : ℕ) where
+module _ (s : List ℕ) (h : Head) (start : ℕ) (edges : List ℤ) where
   abbrev rows : Read (List (List Place))
   rows = readRows s (h .columns) (h .rows) start
 
@@ -84,139 +80,203 @@ module _ (s : List ℕ) (h : Head) (start : ℕ) where
   areaOf grid e =
       cond (within 1 40_000_000 (population grid)) (good (record { head = h; start = start; grid = grid; end = e }) e) (bad 5)
 
-  pub body-bad : {f : ℕ} → bad f ≡ mapRead population rows → bad f ≡ mapRead summary (readBody s h start)
+  pub body-bad : {f : ℕ} → bad f ≡ mapRead (gridCounts edges) rows → bad f ≡ mapRead (countedArea edges) (readBody s h start)
   unfolding readBody
-  body-bad q = ap (mapRead summary) (bind-bad _ (map-bad population rows q))
+  body-bad q = ap (mapRead (countedArea edges)) (bind-bad _ (map-bad (gridCounts edges) rows q))
 
-  module _ {p e : ℕ} (q : good p e ≡ mapRead population rows) where
-    pub body-good : within 1 40_000_000 p ≡ true → good (summed h start p e) e ≡ mapRead summary (readBody s h start)
+  module _ {c : Counts} {e : ℕ} (q : good c e ≡ mapRead (gridCounts edges) rows) where
+    pub body-good : within 1 40_000_000 (c .people .0) ≡ true
+        → good (handedOut h start c e) e ≡ mapRead (countedArea edges) (readBody s h start)
     unfolding readBody
     body-good w = go rows q
       where
-        go : (r : Read (List (List Place))) → good p e ≡ mapRead population r
-            → good (summed h start p e) e ≡ mapRead summary (bind r areaOf)
+        go : (r : Read (List (List Place))) → good c e ≡ mapRead (gridCounts edges) r
+            → good (handedOut h start c e) e ≡ mapRead (countedArea edges) (bind r areaOf)
         go (bad x) q = cc
         go (good grid m) q =
-            let qp : p ≡ population grid = cc in
+            let qc : c ≡ gridCounts edges grid = cc in
             let qe : e ≡ m = cc in
-            _∙_ {b = good (summed h start (population grid) m) m} (λ i. good (summed h start (qp i) (qe i)) (qe i))
-            (ap (mapRead summary) (takes (bad 5) (ap (within 1 40_000_000) (sym qp) ∙ w)))
+            _∙_ {b = good (handedOut h start (gridCounts edges grid) m) m} (λ i. good (handedOut h start (qc i) (qe i)) (qe i))
+            (ap (mapRead (countedArea edges))
+            (takes (bad 5) (ap (λ (k : Counts). within 1 40_000_000 (k .people .0)) (sym qc) ∙ w)))
 
-    pub body-out : within 1 40_000_000 p ≡ false → bad 5 ≡ mapRead summary (readBody s h start)
+    pub body-out : within 1 40_000_000 (c .people .0) ≡ false → bad 5 ≡ mapRead (countedArea edges) (readBody s h start)
     unfolding readBody
     body-out w = go rows q
       where
-        go : (r : Read (List (List Place))) → good p e ≡ mapRead population r → bad 5 ≡ mapRead summary (bind r areaOf)
+        go : (r : Read (List (List Place))) → good c e ≡ mapRead (gridCounts edges) r
+            → bad 5 ≡ mapRead (countedArea edges) (bind r areaOf)
         go (bad x) q = cc
         go (good grid m) q =
-            let qp : p ≡ population grid = cc in
-            ap (mapRead summary)
-            (leaves (good (record { head = h; start = start; grid = grid; end = m }) m) (ap (within 1 40_000_000) (sym qp) ∙ w))
+            let qc : c ≡ gridCounts edges grid = cc in
+            ap (mapRead (countedArea edges))
+            (leaves (good (record { head = h; start = start; grid = grid; end = m }) m)
+            (ap (λ (k : Counts). within 1 40_000_000 (k .people .0)) (sym qc) ∙ w))
+
+-- ---- an area that is counted under boxes if it has the number that is sought
+
+module _ (s : List ℕ) (start number : ℕ) (edges : List ℤ) (h : Head) where
+  -- the edges that a head's area is counted under
+  abbrev edgesFor : List ℤ
+  edgesFor = cond (eqb (h .number) number) edges []
+
+  -- an area that is read has the head that was read
+  counted-for : mapRead (countedFor number edges) (readBody s h start) ≡ mapRead (countedArea edgesFor) (readBody s h start)
+  unfolding readBody
+  counted-for = go (readRows s (h .columns) (h .rows) start)
+    where
+      by : (t : Bool) (grid : List (List Place)) (e : ℕ) →
+          let a : Read Area = cond t (good (record { head = h; start = start; grid = grid; end = e }) e) (bad 5) in
+          mapRead (countedFor number edges) a ≡ mapRead (countedArea edgesFor) a
+      by true grid e = refl
+      by false grid e = refl
+
+      go : (r : Read (List (List Place)))
+          → mapRead (countedFor number edges) (bind r (areaOf s h start edges))
+          ≡ mapRead (countedArea edgesFor) (bind r (areaOf s h start edges))
+      go (bad x) = refl
+      go (good grid e) = by (within 1 40_000_000 (population grid)) grid e
+
+  pub for-sought : {r : Read CountedArea} → h .number ≡ number → r ≡ mapRead (countedArea edges) (readBody s h start)
+      → r ≡ mapRead (countedFor number edges) (readBody s h start)
+  for-sought n e =
+      e ∙ ap (λ (l : List ℤ). mapRead (countedArea l) (readBody s h start)) (takes [] (eq-eqb (h .number) number n)) ∙ sym counted-for
+
+  pub for-other : {r : Read CountedArea} → (h .number ≡ number → ⊥) → r ≡ mapRead (countedArea []) (readBody s h start)
+      → r ≡ mapRead (countedFor number edges) (readBody s h start)
+  for-other n e =
+      e ∙ ap (λ (l : List ℤ). mapRead (countedArea l) (readBody s h start)) (leaves edges (ne-eqb (h .number) number n))
+      ∙ sym counted-for
 
 -- ---- the loop over the areas
 
 -- what is found, where `f` is found so far and `g` in what follows
-abbrev orElse : LookedUp → LookedUp → LookedUp
+abbrev orElse : {A : Type 0} → SoughtOf A → SoughtOf A → SoughtOf A
 orElse (refused f) g = refused f
 orElse lacking g = g
 orElse (has a) g = has a
 
-or-lacking : (f : LookedUp) → orElse f lacking ≡ f
+or-lacking : {A : Type 0} (f : SoughtOf A) → orElse f lacking ≡ f
 or-lacking (refused f) = refl
 or-lacking lacking = refl
 or-lacking (has a) = refl
 
-module _ (s : List ℕ) (number : ℕ) where
+module _ (s : List ℕ) (number : ℕ) (edges : List ℤ) where
   -- what is found, with `f` found so far and the areas that are left read as r
-  abbrev finish : LookedUp → Read (List Area) → LookedUp
+  abbrev finish : SoughtOf CountedArea → Read (List Area) → SoughtOf CountedArea
   finish f (bad x) = refused x
-  finish f (good l e) = cond (eqb e (length s)) (orElse f (located (locate number l))) (refused 3)
+  finish f (good l e) = cond (eqb e (length s)) (orElse f (locatedAs (countedArea edges) (locate number l))) (refused 3)
 
   -- the invariant of the loop at area k of n: the number of the area before is `before`
-  pub record Search (n first k at before : ℕ) (f : Found) : Type 0 where
+  pub record Search (n first k at before : ℕ) (f : Sought) : Type 0 where
     pub inside : k ≤ n
-    pub left : lookUp number (readRest s n first) ≡ finish (foundMeans f) (readAreas s (n - k) before at)
+    pub left : seek (countedArea edges) number (readRest s n first) ≡ finish (soughtMeans f) (readAreas s (n - k) before at)
 
-  search-begins : (n first : ℕ) → Search n first 0 first 0 found.Lacking
-  unfolding lookUp readRest
+  search-begins : (n first : ℕ) → Search n first 0 first 0 sought.Lacking
+  unfolding seek readRest
   search-begins n first = record {
     inside = omega arith;
     left = go (readAreas s n 0 first) ∙ ap (λ (k : ℕ). finish lacking (readAreas s k 0 first)) (omega arith);
   }
     where
       by : (t : Bool) (l : List Area) (e : ℕ)
-          → lookUp number (cond t (good l e) (bad 3)) ≡ cond t (located (locate number l)) (refused 3)
+          → seek (countedArea edges) number (cond t (good l e) (bad 3))
+          ≡ cond t (locatedAs (countedArea edges) (locate number l)) (refused 3)
       by true l e = refl
       by false l e = refl
 
-      go : (r : Read (List Area)) → lookUp number (bind r (λ l e. cond (eqb e (length s)) (good l e) (bad 3))) ≡ finish lacking r
+      go : (r : Read (List Area))
+          → seek (countedArea edges) number (bind r (λ l e. cond (eqb e (length s)) (good l e) (bad 3))) ≡ finish lacking r
       go (bad x) = refl
       go (good l e) = by (eqb e (length s)) l e
 
   keeps : (t : Bool) (a : Area) (g : Located)
-      → located (cond t (some a) g) ≡ orElse (foundMeans (cond t (found.At (summary a)) found.Lacking)) (located g)
+      → locatedAs (countedArea edges) (cond t (some a) g)
+      ≡ orElse (soughtMeans (cond t (sought.At (countedArea (cond t edges []) a)) sought.Lacking)) (locatedAs (countedArea edges) g)
   keeps true a g = refl
   keeps false a g = refl
 
-  one-more : (f : Found) (a : Area) (l : List Area)
-      → orElse (foundMeans f) (located (locate number (a ∷ l)))
-      ≡ orElse (foundMeans (kept f (summary a) number)) (located (locate number l))
+  one-more : (f : Sought) (a : Area) (l : List Area)
+      → orElse (soughtMeans f) (locatedAs (countedArea edges) (locate number (a ∷ l)))
+      ≡ orElse (soughtMeans (kept f (countedFor number edges a) number)) (locatedAs (countedArea edges) (locate number l))
   unfolding locate
-  one-more (found.Refused x) a l = refl
-  one-more found.Lacking a l = keeps (eqb (a .head .number) number) a (locate number l)
-  one-more (found.At b) a l = refl
+  one-more (sought.Refused x) a l = refl
+  one-more sought.Lacking a l = keeps (eqb (a .head .number) number) a (locate number l)
+  one-more (sought.At b) a l = refl
 
-  after : (f : Found) (a : Area) (r : Read (List Area))
-      → finish (foundMeans f) (bind r (λ l e. good (a ∷ l) e)) ≡ finish (foundMeans (kept f (summary a) number)) r
+  after : (f : Sought) (a : Area) (r : Read (List Area))
+      → finish (soughtMeans f) (bind r (λ l e. good (a ∷ l) e)) ≡ finish (soughtMeans (kept f (countedFor number edges a) number)) r
   after f a (bad x) = refl
-  after f a (good l e) = ap (λ (g : LookedUp). cond (eqb e (length s)) g (refused 3)) (one-more f a l)
+  after f a (good l e) = ap (λ (g : SoughtOf CountedArea). cond (eqb e (length s)) g (refused 3)) (one-more f a l)
 
-pub search-starts : {s : List ℕ} {number n first : ℕ} → Search s number n first 0 first 0 found.Lacking
-search-starts {s} {number} {n} {first} = search-begins s number n first
+pub search-starts : {s : List ℕ} {number : ℕ} {edges : List ℤ} {n first : ℕ} → Search s number edges n first 0 first 0 sought.Lacking
+search-starts {s} {number} {edges} {n} {first} = search-begins s number edges n first
 
 module _
     {s : List ℕ}
-    {number n first k position before : ℕ}
-    {f : Found}
-    (w : Search s number n first k position before f)
+    {number : ℕ}
+    {edges : List ℤ}
+    {n first k position before : ℕ}
+    {f : Sought}
+    (w : Search s number edges n first k position before f)
   where
     -- a fault of area k refuses the map
-    pub search-stops : {x : ℕ} → k < n → bad x ≡ mapRead summary (readArea s before position)
-        → refused x ≡ lookUp number (readRest s n first)
+    pub search-stops : {x : ℕ} → k < n → bad x ≡ mapRead (countedFor number edges) (readArea s before position)
+        → refused x ≡ seek (countedArea edges) number (readRest s n first)
     unfolding readAreas
     search-stops h q =
-        ap (finish s number (foundMeans f)) (bind-bad _ (map-bad summary (readArea s before position) q))
-        ∙ ap (λ (m : ℕ). finish s number (foundMeans f) (readAreas s m before position)) (sym (sub-step n k h))
+        ap (finish s number edges (soughtMeans f)) (bind-bad _ (map-bad (countedFor number edges) (readArea s before position) q))
+        ∙ ap (λ (m : ℕ). finish s number edges (soughtMeans f) (readAreas s m before position)) (sym (sub-step n k h))
         ∙ sym (w .left)
 
-    pub search-turns : {a : handed.Area} {g : Found} → k < n → good a (a .end) ≡ mapRead summary (readArea s before position)
-        → g ≡ kept f a number → Search s number n first (k + 1) (a .end) (a .number) g
+    pub search-turns : {a : CountedArea} {g : Sought} → k < n
+        → good a (a .area .end) ≡ mapRead (countedFor number edges) (readArea s before position)
+        → g ≡ kept f a number → Search s number edges n first (k + 1) (a .area .end) (a .area .number) g
     unfolding readAreas
     search-turns {a} {g} h q c = record {
       inside = omega arith;
       left = w .left
-          ∙ ap (λ (m : ℕ). finish s number (foundMeans f) (readAreas s m before position)) (sub-step n k h)
+          ∙ ap (λ (m : ℕ). finish s number edges (soughtMeans f) (readAreas s m before position)) (sub-step n k h)
           ∙ go (readArea s before position) q
-          ∙ ap (λ (x : Found). finish s number (foundMeans x) (readAreas s (n - (k + 1)) (a .number) (a .end))) (sym c);
+          ∙ ap (λ (x : Sought). finish s number edges (soughtMeans x) (readAreas s (n - (k + 1)) (a .area .number) (a .area .end))) (sym c);
     }
       where
-        go : (r : Read Area) → good a (a .end) ≡ mapRead summary r
-            → finish s number (foundMeans f)
+        go : (r : Read Area) → good a (a .area .end) ≡ mapRead (countedFor number edges) r
+            → finish s number edges (soughtMeans f)
             (bind r (λ x m. bind (readAreas s (n - (k + 1)) (x .head .number) m) (λ l e′. good (x ∷ l) e′)))
-            ≡ finish s number (foundMeans (kept f a number)) (readAreas s (n - (k + 1)) (a .number) (a .end))
+            ≡ finish s number edges (soughtMeans (kept f a number)) (readAreas s (n - (k + 1)) (a .area .number) (a .area .end))
         go (bad x) v = cc
         go (good x m) v =
-            let qa : a ≡ summary x = cc in
-            let qe : a .end ≡ m = cc in
-            after s number f x (readAreas s (n - (k + 1)) (x .head .number) m)
-            ∙ (λ i. finish s number (foundMeans (kept f (sym qa i) number)) (readAreas s (n - (k + 1)) (sym qa i .number) (sym qe i)))
+            let qa : a ≡ countedFor number edges x = cc in
+            let qe : a .area .end ≡ m = cc in
+            after s number edges f x (readAreas s (n - (k + 1)) (x .head .number) m)
+            ∙ (λ i. finish s number edges (soughtMeans (kept f (sym qa i) number))
+            (readAreas s (n - (k + 1)) (sym qa i .area .number) (sym qe i)))
 
-    pub search-ends : n ≤ k → lookUp number (readRest s n first) ≡ cond (eqb position (length s)) (foundMeans f) (refused 3)
+    pub search-ends : n ≤ k
+        → seek (countedArea edges) number (readRest s n first) ≡ cond (eqb position (length s)) (soughtMeans f) (refused 3)
     unfolding readAreas locate
     search-ends h =
         w .left
-        ∙ ap (λ (m : ℕ). finish s number (foundMeans f) (readAreas s m before position)) (sub-end n k h)
-        ∙ ap (λ (g : LookedUp). cond (eqb position (length s)) g (refused 3)) (or-lacking (foundMeans f))
+        ∙ ap (λ (m : ℕ). finish s number edges (soughtMeans f) (readAreas s m before position)) (sub-end n k h)
+        ∙ ap (λ (g : SoughtOf CountedArea). cond (eqb position (length s)) g (refused 3)) (or-lacking (soughtMeans f))
+
+-- ---- a look-up hands out the area alone
+
+-- what is handed out of an area that was sought
+abbrev pub bare : SoughtOf CountedArea → LookedUp
+bare (refused f) = refused f
+bare lacking = lacking
+bare (has a) = has (a .area)
+
+pub look-up-is : (edges : List ℤ) (n : ℕ) (r : Read (List Area)) → bare (seek (countedArea edges) n r) ≡ lookUp n r
+unfolding seek lookUp
+look-up-is edges n (bad f) = refl
+look-up-is edges n (good l e) = by (locate n l)
+  where
+    by : (g : Located) → bare (locatedAs (countedArea edges) g) ≡ located g
+    by none = refl
+    by (some a) = refl
 
 -- ---- the check of a whole map
 

@@ -1,7 +1,11 @@
 pub mod SignedLaws
 pub mod FieldLaws
 pub mod LoopLaws
+pub mod RowLaws
+pub mod RowLoops
 pub mod AreaLaws
 pub mod Onward
 pub mod Part
 pub mod Accepted
+pub mod CountLaws
+pub mod ShortLaws

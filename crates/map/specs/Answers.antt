@@ -7,6 +7,7 @@ use lib.Dec.{eqb}
 use lib.IntN.{ℤ}
 use Rattle.map.specs.Reading.{Read, bad, good}
 use Rattle.map.specs.Format.{Place, gap, cell, Head, population}
+use Rattle.map.specs.Counting.{Small, gridCounts}
 use Rattle.map.specs.Format as format
 use Rattle.map.specs.declared.Fault.{Fault}
 use Rattle.map.specs.declared.Fault.the-variants.{Ends, Limit, Extra, Order, Population}
@@ -24,6 +25,10 @@ use Rattle.map.specs.declared.parts.CellRead.{CellRead}
 use Rattle.map.specs.declared.parts.CellRead.the-variants as cell-read
 use Rattle.map.specs.declared.parts.PlaceRead.{PlaceRead}
 use Rattle.map.specs.declared.parts.PlaceRead.the-variants as place-read
+use Rattle.map.specs.declared.parts.Counts.{Counts}
+use Rattle.map.specs.declared.parts.CountedArea.{CountedArea}
+use Rattle.map.specs.declared.parts.Sought.{Sought}
+use Rattle.map.specs.declared.parts.Sought.the-variants as sought
 use Rattle.map.specs.declared.parts.Tally.{Tally}
 use Rattle.map.specs.declared.parts.Tally.the-variants as tally
 use Rattle.map.specs.declared.parts.Head as parts
@@ -68,29 +73,21 @@ abbrev pub cellMeans : CellRead → Read Cell
 cellMeans (cell-read.Bad f) = bad (faultNumber f)
 cellMeans (cell-read.Good c e) = good c e
 
-abbrev pub cellPeople : CellRead → ℕ
-cellPeople (cell-read.Bad f) = 0
-cellPeople (cell-read.Good c e) = c .people
-
 abbrev pub placeMeans : PlaceRead → Read Place
 placeMeans (place-read.Bad f) = bad (faultNumber f)
 placeMeans (place-read.Gap e) = good gap e
 placeMeans (place-read.There c e) = good (cell c) e
 
-abbrev pub placeCount : PlaceRead → ℕ
-placeCount (place-read.Bad f) = 0
-placeCount (place-read.Gap e) = 0
-placeCount (place-read.There c e) = c .people
+-- ---- what was counted
 
--- ---- people that were counted
-
-abbrev pub tallyMeans : Tally → Read ℕ
+abbrev pub tallyMeans : Tally → Read Counts
 tallyMeans (tally.Bad f) = bad (faultNumber f)
-tallyMeans (tally.Good p e) = good (p .0) e
+tallyMeans (tally.Good c e) = good c e
 
-abbrev pub tallyPeople : Tally → ℕ
-tallyPeople (tally.Bad f) = 0
-tallyPeople (tally.Good p e) = p .0
+-- the counts of n places at most
+abbrev pub TallySmall : ℕ → Tally → Type 0
+TallySmall n (tally.Bad f) = Unit {0}
+TallySmall n (tally.Good c e) = Small n c
 
 -- ---- heads and areas
 
@@ -118,9 +115,17 @@ summary a = record {
   end = a .end;
 }
 
-abbrev pub areaMeans : AreaRead → Read Area
+-- an area with what is counted over its cells under boxes
+abbrev pub countedArea : (edges : List ℤ) → format.Area → CountedArea
+countedArea edges a = record { area = summary a; counts = gridCounts edges (a .grid) }
+
+-- the same, but under boxes only if the area has the number that is sought
+abbrev pub countedFor : (number : ℕ) (edges : List ℤ) → format.Area → CountedArea
+countedFor number edges a = countedArea (cond (eqb (a .head .number) number) edges []) a
+
+abbrev pub areaMeans : AreaRead → Read CountedArea
 areaMeans (area-read.Bad f) = bad (faultNumber f)
-areaMeans (area-read.Good a) = good a (a .end)
+areaMeans (area-read.Good a) = good a (a .area .end)
 
 -- ---- "When an area is looked up by its number"
 
@@ -133,11 +138,14 @@ unfoldable pub locate : ℕ → List format.Area → Located
 locate n [] = none
 locate n (a ∷ l) = cond (eqb (a .head .number) n) (some a) (locate n l)
 
--- a map that is refused, lacks the number, or has the area
-pub data LookedUp : Type 0 where
-  refused : ℕ → LookedUp
-  lacking : LookedUp
-  has : Area → LookedUp
+-- a map that is refused, lacks the number, or has the area, of which something is handed out
+pub data SoughtOf (A : Type 0) : Type 0 where
+  refused : ℕ → SoughtOf A
+  lacking : SoughtOf A
+  has : A → SoughtOf A
+
+abbrev pub LookedUp : Type 0
+LookedUp = SoughtOf Area
 
 abbrev pub foundMeans : Found → LookedUp
 foundMeans (found.Refused f) = refused (faultNumber f)
@@ -151,6 +159,20 @@ located (some a) = has (summary a)
 unfoldable pub lookUp : ℕ → Read (List format.Area) → LookedUp
 lookUp n (bad f) = refused f
 lookUp n (good l e) = located (locate n l)
+
+-- the same with whatever `f` makes of the area
+abbrev pub locatedAs : {A : Type 0} → (format.Area → A) → Located → SoughtOf A
+locatedAs f none = lacking
+locatedAs f (some a) = has (f a)
+
+unfoldable pub seek : {A : Type 0} → (format.Area → A) → ℕ → Read (List format.Area) → SoughtOf A
+seek f n (bad x) = refused x
+seek f n (good l e) = locatedAs f (locate n l)
+
+abbrev pub soughtMeans : Sought → SoughtOf CountedArea
+soughtMeans (sought.Refused f) = refused (faultNumber f)
+soughtMeans sought.Lacking = lacking
+soughtMeans (sought.At a) = has a
 
 -- the bytes from `start` to before `end`
 abbrev pub between : List ℕ → (start end : ℕ) → List ℕ
@@ -167,7 +189,7 @@ partOf s n (bad f) = []
 partOf s n (good l e) = rowsPart s (locate n l)
 
 -- what is found after one more area: the first with the number counts
-abbrev pub kept : Found → Area → ℕ → Found
-kept (found.Refused f) a n = found.Refused f
-kept found.Lacking a n = cond (eqb (a .number) n) (found.At a) found.Lacking
-kept (found.At b) a n = found.At b
+abbrev pub kept : Sought → CountedArea → ℕ → Sought
+kept (sought.Refused f) a n = sought.Refused f
+kept sought.Lacking a n = cond (eqb (a .area .number) n) (sought.At a) sought.Lacking
+kept (sought.At b) a n = sought.At b

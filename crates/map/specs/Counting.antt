@@ -1,41 +1,80 @@
--- The people of an area's cells, each cell counted as often as it is covered. Population and coverage are both such sums.
+-- What one walk over an area's cells counts: people and cells, and those under boxes. Population and coverage come from these sums.
 -- Assumes nothing.
-use Prim.Native.Nat.{ℕ, _+_, _*_, _/_}
+use Prim.Native.Nat.{ℕ, _+_, _*_, _≤_}
 use mathlib.Core.List.{List}
-use mathlib.Core.Bool.{Bool, _&&_}
-use lib.Dec.{leb}
-use lib.IntN.{ℤ, pos}
-use lib.ListN.{length, getD}
-use lib.Signed.{leZ, ltZ}
-use Rattle.lists.specs.Sums.{total, count}
-use Rattle.map.specs.Format.{Place, gap, cell}
+use lib.IntN.{ℤ}
+use Rattle.lists.specs.Sums.{total}
+use Rattle.units.specs.Sums.{capped}
+use Rattle.boxes.specs.Boxes.{boxesOver}
+use Rattle.map.specs.declared.Cell.{Cell}
+use Rattle.map.specs.declared.parts.Counts.{Counts}
+use Rattle.map.specs.Format.{Place, gap, cell, peopleAt, population}
 
--- "Coverage and blocks": south ≤ latitude < north and west ≤ longitude < east
-abbrev pub boxCovers : (south north west east latitude longitude : ℤ) → Bool
-boxCovers south north west east latitude longitude =
-    leZ south latitude && ltZ latitude north && leZ west longitude && ltZ longitude east
+-- the cells that stand at a place: one, or none
+abbrev pub cellsAt : Place → ℕ
+cellsAt gap = 0
+cellsAt (cell c) = 1
 
--- box i of n covers a point: the edges are the n souths, then the n norths, the n wests and the n easts
-abbrev pub boxAt : List ℤ → (latitude longitude : ℤ) → (n i : ℕ) → Bool
-boxAt edges latitude longitude n i =
-    boxCovers (getD edges i (pos 0)) (getD edges (n + i) (pos 0)) (getD edges (2 * n + i) (pos 0)) (getD edges (3 * n + i) (pos 0))
-    latitude longitude
+-- the people that stand at a place, once for each box that covers them
+unfoldable pub boxedPeople : (edges : List ℤ) → Place → ℕ
+boxedPeople edges gap = 0
+boxedPeople edges (cell c) = c .people * boxesOver edges (c .latitude) (c .longitude)
 
--- how many boxes cover a point, of a quarter as many as there are edges
-unfoldable pub boxesOver : List ℤ → (latitude longitude : ℤ) → ℕ
-boxesOver edges latitude longitude = count (boxAt edges latitude longitude (length edges / 4)) (length edges / 4)
+-- document 02, Paper 1: "the count of covered cells. Cells without people count too, and a cell under two licences counts twice": the
+-- cell that stands at a place, once for each box that covers it
+unfoldable pub boxedCells : (edges : List ℤ) → Place → ℕ
+boxedCells edges gap = 0
+boxedCells edges (cell c) = boxesOver edges (c .latitude) (c .longitude)
 
--- the people that stand at a place, counted `always` times and once more for each box that covers them
-unfoldable pub placePeople : (always : ℕ) (edges : List ℤ) → Place → ℕ
-placePeople always edges gap = 0
-placePeople always edges (cell c) = c .people * (always + boxesOver edges (c .latitude) (c .longitude))
+-- the four counts of a walk
+abbrev pub counts : (people cells boxed-people boxed-cells : ℕ) → Counts
+counts p n q m = record {
+  people = record { 0 = p };
+  cells = record { 0 = n };
+  «boxed_people» = record { 0 = q };
+  «boxed_cells» = record { 0 = m };
+}
 
-abbrev pub rowPeople : (always : ℕ) (edges : List ℤ) → List Place → ℕ
-rowPeople always edges = total (placePeople always edges)
+abbrev pub noCounts : Counts
+noCounts = counts 0 0 0 0
 
-abbrev pub gridPeople : (always : ℕ) (edges : List ℤ) → List (List Place) → ℕ
-gridPeople always edges = total (rowPeople always edges)
+-- of one place, of a row and of a grid
+abbrev pub placeCounts : (edges : List ℤ) → Place → Counts
+placeCounts edges p = counts (peopleAt p) (cellsAt p) (boxedPeople edges p) (boxedCells edges p)
 
--- the sizes that a walk takes, for which its sums are exact: 256 columns and rows, 64 times always, and the 256 edges of 64 boxes
-unfoldable pub walkable : (columns rows always edges : ℕ) → Bool
-walkable columns rows always edges = leb columns 256 && leb rows 256 && leb always 64 && leb edges 256
+abbrev pub rowCounts : (edges : List ℤ) → List Place → Counts
+rowCounts edges row =
+    counts (total peopleAt row) (total cellsAt row) (total (boxedPeople edges) row) (total (boxedCells edges) row)
+
+-- the same of a list of cells
+abbrev pub cellCounts : (edges : List ℤ) → List Cell → Counts
+cellCounts edges cells =
+    counts (total (λ c. c .people) cells) (total (λ c. 1) cells)
+    (total (λ c. c .people * boxesOver edges (c .latitude) (c .longitude)) cells)
+    (total (λ c. boxesOver edges (c .latitude) (c .longitude)) cells)
+
+abbrev pub gridCounts : (edges : List ℤ) → List (List Place) → Counts
+gridCounts edges grid =
+    counts (population grid) (total (total cellsAt) grid) (total (total (boxedPeople edges)) grid)
+    (total (total (boxedCells edges)) grid)
+
+-- ---- sums of counts, and their bounds
+
+-- what two parts come to together
+abbrev pub sum : Counts → Counts → Counts
+sum a b =
+    counts (a .people .0 + b .people .0) (a .cells .0 + b .cells .0) (a .«boxed_people» .0 + b .«boxed_people» .0)
+    (a .«boxed_cells» .0 + b .«boxed_cells» .0)
+
+-- the same in sums that stop at the largest count
+abbrev pub cappedSum : Counts → Counts → Counts
+cappedSum a b =
+    counts (capped (a .people .0 + b .people .0)) (capped (a .cells .0 + b .cells .0))
+    (capped (a .«boxed_people» .0 + b .«boxed_people» .0)) (capped (a .«boxed_cells» .0 + b .«boxed_cells» .0))
+
+-- the counts of n places at most: 1,000,000 people and one cell at each, under 64 boxes
+pub record Small (n : ℕ) (c : Counts) : Type 0 where
+  pub people : c .people .0 ≤ 1000000 * n
+  pub cells : c .cells .0 ≤ n
+  pub boxed-people : c .«boxed_people» .0 ≤ 64000000 * n
+  pub boxed-cells : c .«boxed_cells» .0 ≤ 64 * n

@@ -23,11 +23,11 @@ use Rattle.map.specs.Format.{
   readAreas,
   readRest,
   readMap,
-  Place,
   Area,
 }
-use Rattle.lists.specs.Sums.{total, count}
-use Rattle.map.specs.Counting.{boxesOver, placePeople, gridPeople}
+use Rattle.lists.specs.Sums.{count}
+use Rattle.boxes.specs.Boxes.{boxesOver}
+use Rattle.map.specs.Counting.{boxedPeople, boxedCells, gridCounts}
 use Rattle.map.specs.Answers.{numberOf, locate, partOf}
 
 -- ---- bytes
@@ -191,44 +191,49 @@ unfolding partOf locate many numberAt signed32 field readCell bitAt readPlace cl
     numberField sizeField readHead readBody readArea readAreas readRest readMap
 look-ups-right = refl
 
--- ---- people that are counted: the map `row` has its cells at latitude 0 and longitudes 0 to 4
+-- ---- what is counted: the map `row` has its cells at latitude 0 and longitudes 0 to 4
 
-pub record Counts : Type 0 where
-  pub always : ℕ
+pub record Walks : Type 0 where
   pub edges : List ℤ
   pub people : ℕ
+  pub cells : ℕ
+  pub boxed-people : ℕ
+  pub boxed-cells : ℕ
 
-abbrev counts : ℕ → List ℤ → ℕ → Counts
-counts always edges people = record { always = always; edges = edges; people = people }
+abbrev walks : List ℤ → (people cells boxed-people boxed-cells : ℕ) → Walks
+walks edges p n q m = record { edges = edges; people = p; cells = n; boxed-people = q; boxed-cells = m }
 
-abbrev counted : List Counts
-counted =
-    -- the population
-    counts 1 [] 20 ∷
-    -- a box over columns 2 and 3
-    counts 0 (pos 0 ∷ pos 1 ∷ pos 2 ∷ pos 4 ∷ []) 7 ∷
-    counts 1 (pos 0 ∷ pos 1 ∷ pos 2 ∷ pos 4 ∷ []) 27 ∷
-    -- two such
-    counts 0 (pos 0 ∷ pos 0 ∷ pos 1 ∷ pos 1 ∷ pos 2 ∷ pos 2 ∷ pos 4 ∷ pos 4 ∷ []) 14 ∷
+abbrev walked : List Walks
+walked =
+    -- the population, and the cells with and without people
+    walks [] 20 5 0 0 ∷
+    -- a box over columns 2 and 3, and two such
+    walks (pos 0 ∷ pos 1 ∷ pos 2 ∷ pos 4 ∷ []) 20 5 7 2 ∷
+    walks (pos 0 ∷ pos 0 ∷ pos 1 ∷ pos 1 ∷ pos 2 ∷ pos 2 ∷ pos 4 ∷ pos 4 ∷ []) 20 5 14 4 ∷
+    -- a cell without people counts among the cells
+    walks (pos 0 ∷ pos 1 ∷ pos 1 ∷ pos 2 ∷ []) 20 5 0 1 ∷
     -- the south and west edges belong to a box, the north and east edges do not
-    counts 0 (negsuc 0 ∷ pos 0 ∷ pos 0 ∷ pos 5 ∷ []) 0 ∷
-    counts 0 (pos 0 ∷ pos 1 ∷ pos 0 ∷ pos 1 ∷ []) 5 ∷
-    counts 0 (pos 0 ∷ pos 1 ∷ negsuc 5 ∷ pos 0 ∷ []) 0 ∷
+    walks (negsuc 0 ∷ pos 0 ∷ pos 0 ∷ pos 5 ∷ []) 20 5 0 0 ∷
+    walks (pos 0 ∷ pos 1 ∷ pos 0 ∷ pos 1 ∷ []) 20 5 5 1 ∷
+    walks (pos 0 ∷ pos 1 ∷ negsuc 5 ∷ pos 0 ∷ []) 20 5 0 0 ∷
     []
 
-abbrev gridsOf : List Area → List (List (List Place))
-gridsOf [] = []
-gridsOf (a ∷ l) = a .grid ∷ gridsOf l
+abbrev same-counts : Walks → List Area → Bool
+same-counts w [] = false
+same-counts w (a ∷ l) =
+    let c = gridCounts (w .edges) (a .grid) in
+    eqb (c .people .0) (w .people) && eqb (c .cells .0) (w .cells) && eqb (c .«boxed_people» .0) (w .boxed-people)
+    && eqb (c .«boxed_cells» .0) (w .boxed-cells)
 
-abbrev peopleOf : ℕ → List ℤ → Read (List Area) → ℕ
-peopleOf always edges (bad f) = 0
-peopleOf always edges (good l e) = total (gridPeople always edges) (gridsOf l)
+abbrev walkedIn : Walks → Read (List Area) → Bool
+walkedIn w (bad f) = false
+walkedIn w (good l e) = same-counts w l
 
-abbrev allCounted : List Counts → Bool
-allCounted [] = true
-allCounted (r ∷ rs) = eqb (peopleOf (r .always) (r .edges) (readMap row)) (r .people) && allCounted rs
+abbrev allWalked : List Walks → Bool
+allWalked [] = true
+allWalked (w ∷ ws) = walkedIn w (readMap row) && allWalked ws
 
-counts-right : allCounted counted ≡ true
-unfolding count boxesOver placePeople many numberAt signed32 field readCell bitAt readPlace clearFrom readRow
+walks-right : allWalked walked ≡ true
+unfolding count boxesOver boxedPeople boxedCells many numberAt signed32 field readCell bitAt readPlace clearFrom readRow
     numberField sizeField readHead readBody readArea readAreas readRest readMap
-counts-right = refl
+walks-right = refl

@@ -1,15 +1,14 @@
-// The map (document 01, "The map" and refusals 1 to 5). The ways in are check, look_up and rows_of; the modules fields and parts
-// serve the crates above.
+// The map (document 01, "The map" and refusals 1 to 5). The ways in are check, look_up and rows_of; the modules fields, parts and
+// rows serve the crates above.
 pub mod fields;
 pub mod parts;
+pub mod rows;
 
-use fields::Field;
-use parts::AreaRead;
+use parts::Sought;
 use units::People;
 ghost use mathlib.Core.Path.{_≡_};
-ghost use Prim.Native.Nat.{_≤_};
-ghost use Rattle.map.specs.Format.{readMap, readRest};
-ghost use Rattle.map.specs.Answers.{faultNumber, checkedNumber, numberOf, foundMeans, lookUp, kept, partOf};
+ghost use Rattle.map.specs.Format.{readMap};
+ghost use Rattle.map.specs.Answers.{faultNumber, checkedNumber, numberOf, foundMeans, lookUp, partOf};
 
 // Why a map is refused (document 01, "Refused by the input").
 pub enum Fault {
@@ -98,9 +97,14 @@ pub fn check(map: &[u8]) -> Checked
 pub fn look_up(map: &[u8], number: u16) -> Found
     ensures { λ r. ⌜ foundMeans r ≡ lookUp number (readMap (now (map .entry))) ⌝ }
 {
-    match fields::u8_field(map, 0, 1, 32) {
-        Field::Bad(f) => Found::Refused(f),
-        Field::Good(count, first) => areas(map, number, count, first),
+    let edges = [0i32; 4];
+    match parts::find(map, number, &edges[..0]) {
+        Sought::Refused(f) => Found::Refused(f),
+        Sought::Lacking => Found::Lacking,
+        Sought::At(a) => {
+            let area = a.area;
+            Found::At(area)
+        }
     }
 }
 
@@ -116,51 +120,5 @@ pub fn rows_of(map: &[u8], number: u16) -> &[u8]
         }
         Found::Lacking => &map[..0],
         Found::Refused(_) => &map[..0],
-    }
-}
-
-// What is found after one more area.
-fn keep(found: Found, a: Area, number: u16) -> Found
-    ensures { λ r. ⌜ r ≡ kept found a number ⌝ }
-{
-    match found {
-        Found::Refused(f) => Found::Refused(f),
-        Found::Lacking => {
-            if a.number == number {
-                Found::At(a)
-            } else {
-                Found::Lacking
-            }
-        }
-        Found::At(b) => Found::At(b),
-    }
-}
-
-// The areas of a map, from the first one's position to the end of the map.
-fn areas(map: &[u8], number: u16, count: u32, first: usize) -> Found
-    requires { ⌜ count ≤ 32 ⌝ }
-    ensures { λ r. ⌜ foundMeans r ≡ lookUp number (readRest (now (map .entry)) count first) ⌝ }
-{
-    let mut at = first;
-    let mut before: u16 = 0;
-    let mut found = Found::Lacking;
-    let mut k: u32 = 0;
-    while k < count {
-        match parts::area_at(map, before, at) {
-            AreaRead::Bad(f) => {
-                return Found::Refused(f);
-            }
-            AreaRead::Good(a) => {
-                found = keep(found, a, number);
-                before = a.number;
-                at = a.end;
-            }
-        }
-        k += 1;
-    }
-    if at == map.len() {
-        found
-    } else {
-        Found::Refused(Fault::Extra)
     }
 }

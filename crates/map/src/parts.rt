@@ -1,22 +1,26 @@
-// What the crates above read of a map from a position: places, areas, and the people in their rows. No way in for users.
+// What the crates above read of a map from a position: places, and areas with what is counted over their cells. No way in for users.
 use super::Area;
 use super::Cell;
 use super::Fault;
 use super::fields;
 use super::fields::Coordinate;
 use super::fields::Field;
+use super::rows;
+use units::Cells;
 use units::People;
 ghost use mathlib.Core.Path.{_≡_};
-ghost use mathlib.Core.Bool.{cond};
-ghost use Prim.Native.Nat.{_+_, _*_, _-_, _/_, _≤_, _<_};
+ghost use mathlib.Core.Bool.{true, cond};
+ghost use mathlib.Core.List.{[]};
+ghost use Prim.Native.Nat.{ℕ, _+_, _*_, _-_, _/_, _≤_, _<_};
 ghost use lib.ListN.{length};
-ghost use lib.Dec.{leb};
-ghost use Rattle.map.specs.Reading.{bad, many, mapRead};
+ghost use Rattle.map.specs.Reading.{bad, good, mapRead};
+ghost use Rattle.map.specs.Cells.{readCells};
 ghost use Rattle.map.specs.Format.{bitAt, clearFrom, readCell, readPlace, readRow, readRows, readHead, readBody, readArea};
-ghost use Rattle.map.specs.Counting.{boxCovers, boxesOver, placePeople, rowPeople, gridPeople, walkable};
-ghost use Rattle.lists.specs.Sums.{flag};
-ghost use Rattle.map.specs.Answers.{cellMeans, cellPeople, placeMeans, placeCount, tallyMeans, tallyPeople};
-ghost use Rattle.map.specs.Answers.{headOf, headMeans, headWithin, summary, areaMeans};
+ghost use Rattle.map.specs.Format.{readRest, readMap};
+ghost use Rattle.map.specs.Counting.{cellCounts, rowCounts, gridCounts, cappedSum, Small};
+ghost use Rattle.map.specs.Answers.{faultNumber, cellMeans, placeMeans, tallyMeans, TallySmall};
+ghost use Rattle.map.specs.Answers.{headOf, headMeans, headWithin, areaMeans, countedArea, countedFor};
+ghost use Rattle.map.specs.Answers.{soughtMeans, seek, kept};
 
 // A cell that was read, with the position after it.
 pub enum CellRead {
@@ -31,10 +35,18 @@ pub enum PlaceRead {
     There(Cell, usize),
 }
 
-// The people counted over what was read, with the position after it.
+// What one walk over cells counts: their people and their number, and of those under boxes the people and the number, once for each box.
+pub struct Counts {
+    pub people: People,
+    pub cells: Cells,
+    pub boxed_people: People,
+    pub boxed_cells: Cells,
+}
+
+// What is counted over what was read, with the position after it.
 pub enum Tally {
     Bad(Fault),
-    Good(People, usize),
+    Good(Counts, usize),
 }
 
 // What stands before an area's rows.
@@ -51,15 +63,54 @@ pub enum HeadRead {
     Good(Head, usize),
 }
 
+// An area with what one walk over its cells counted.
+pub struct CountedArea {
+    pub area: Area,
+    pub counts: Counts,
+}
+
 // An area that was read; the position after it is its end.
 pub enum AreaRead {
     Bad(Fault),
-    Good(Area),
+    Good(CountedArea),
+}
+
+// The area with a number, counted under boxes.
+pub enum Sought {
+    Refused(Fault),
+    Lacking,
+    At(CountedArea),
+}
+
+impl Counts {
+    // Nothing is counted yet.
+    const NONE: Counts = Counts {
+        people: People(0),
+        cells: Cells(0),
+        boxed_people: People(0),
+        boxed_cells: Cells(0),
+    };
+
+    // What two parts come to together; each sum stops at the largest u64.
+    fn plus(self, other: Self) -> Self
+        ensures { λ r. ⌜ r ≡ cappedSum self other ⌝ }
+    {
+        let people = self.people;
+        let cells = self.cells;
+        let boxed_people = self.boxed_people;
+        let boxed_cells = self.boxed_cells;
+        Counts {
+            people: people.plus(other.people),
+            cells: cells.plus(other.cells),
+            boxed_people: boxed_people.plus(other.boxed_people),
+            boxed_cells: boxed_cells.plus(other.boxed_cells),
+        }
+    }
 }
 
 // The cell at a position.
 fn cell_at(s: &[u8], at: usize) -> CellRead
-    ensures { λ r. ⌜ (cellMeans r ≡ readCell (now (s .entry)) at) × (cellPeople r ≤ 1000000) ⌝ }
+    ensures { λ r. ⌜ cellMeans r ≡ readCell (now (s .entry)) at ⌝ }
 {
     match fields::u32_field(s, at, 0, 1000000) {
         Field::Bad(f) => CellRead::Bad(f),
@@ -91,7 +142,7 @@ fn bit(s: &[u8], bits: usize, j: usize) -> bool
 // What stands at column j of the row whose bit map starts at bits.
 fn place_at(s: &[u8], bits: usize, j: usize, at: usize) -> PlaceRead
     requires { ⌜ bits + j / 8 < length (now s) ⌝ }
-    ensures { λ r. ⌜ (placeMeans r ≡ readPlace (now (s .entry)) bits j at) × (placeCount r ≤ 1000000) ⌝ }
+    ensures { λ r. ⌜ placeMeans r ≡ readPlace (now (s .entry)) bits j at ⌝ }
 {
     if bit(s, bits, j) {
         match cell_at(s, at) {
@@ -105,77 +156,12 @@ fn place_at(s: &[u8], bits: usize, j: usize, at: usize) -> PlaceRead
 
 // What stands at column j of a row whose bit map starts at bits, wherever that is: past the map's end there is no cell.
 pub fn place(s: &[u8], bits: usize, j: usize, at: usize) -> PlaceRead
-    ensures { λ r. ⌜ (placeMeans r ≡ readPlace (now (s .entry)) bits j at) × (placeCount r ≤ 1000000) ⌝ }
+    ensures { λ r. ⌜ placeMeans r ≡ readPlace (now (s .entry)) bits j at ⌝ }
 {
     if fields::has_room(s, bits, j / 8 + 1) {
         return place_at(s, bits, j, at);
     }
     PlaceRead::Gap(at)
-}
-
-// 1 for true, 0 for false.
-fn one(b: bool) -> u32
-    ensures { λ r. ⌜ (r ≡ flag b) × (r ≤ 1) ⌝ }
-{
-    if b { 1 } else { 0 }
-}
-
-// 1 if the box covers the point, else 0: four tests and no branch, so that a loop over boxes can take several at once.
-fn covers(south: i32, north: i32, west: i32, east: i32, latitude: i32, longitude: i32) -> u32
-    ensures { λ r. ⌜ (r ≡ flag (boxCovers south north west east latitude longitude)) × (r ≤ 1) ⌝ }
-{
-    one((south <= latitude) & (latitude < north) & (west <= longitude) & (longitude < east))
-}
-
-// How many boxes cover a point: edges holds the souths of all boxes, then the norths, the wests and the easts.
-fn boxes_over(edges: &[i32], latitude: i32, longitude: i32) -> u32
-    requires { ⌜ length (now edges) ≤ 256 ⌝ }
-    ensures { λ r. ⌜ (r ≡ boxesOver (now (edges .entry)) latitude longitude) × (r ≤ 64) ⌝ }
-{
-    let n = edges.len() / 4;
-    let mut count: u32 = 0;
-    let mut i: usize = 0;
-    while i < n {
-        let south = edges[i];
-        let north = edges[n + i];
-        let west = edges[2 * n + i];
-        let east = edges[3 * n + i];
-        count += covers(south, north, west, east, latitude, longitude);
-        i += 1;
-    }
-    count
-}
-
-// How many boxes cover a point; 0 for more edges than a register has.
-pub fn covering(edges: &[i32], latitude: i32, longitude: i32) -> u32
-    ensures { λ r. ⌜
-        (r ≡ cond (leb (length (now (edges .entry))) 256) (boxesOver (now (edges .entry)) latitude longitude) 0)
-        × (r ≤ 64)
-        ⌝ }
-{
-    if edges.len() <= 256 {
-        return boxes_over(edges, latitude, longitude);
-    }
-    0
-}
-
-// One place of a row: its people, counted always times and once more for each box that covers them. That is at most 1,000,000
-// people 128 times, which bounds every sum below.
-fn place_people(s: &[u8], bits: usize, j: usize, at: usize, always: u32, edges: &[i32]) -> Tally
-    requires { ⌜ (bits + j / 8 < length (now s)) × (always ≤ 64) × (length (now edges) ≤ 256) ⌝ }
-    ensures { λ r. ⌜
-        (tallyMeans r ≡ mapRead (placePeople always (now (edges .entry))) (readPlace (now (s .entry)) bits j at))
-        × (tallyPeople r ≤ 128000000)
-        ⌝ }
-{
-    match place_at(s, bits, j, at) {
-        PlaceRead::Bad(f) => Tally::Bad(f),
-        PlaceRead::Gap(next) => Tally::Good(People(0), next),
-        PlaceRead::There(c, next) => {
-            let times = always + boxes_over(edges, c.latitude, c.longitude);
-            Tally::Good(People::counted(c.people, times), next)
-        }
-    }
 }
 
 // Whether the bits from .. to of a bit map are 0.
@@ -193,92 +179,145 @@ fn clear(s: &[u8], bits: usize, from: usize, to: usize) -> bool
     true
 }
 
-// The cells of a row, whose bit map starts at bits.
-fn cells(s: &[u8], bits: usize, columns: usize, start: usize, always: u32, edges: &[i32]) -> Tally
-    requires { ⌜ (bits + (columns + 7) / 8 ≤ length (now s)) × (columns ≤ 256) × (always ≤ 64) × (length (now edges) ≤ 256) ⌝ }
-    ensures { λ r. ⌜
-        (tallyMeans r ≡ mapRead (rowPeople always (now (edges .entry))) (many (readPlace (now (s .entry)) bits) columns 0 start))
-        × (tallyPeople r ≤ 128000000 * columns)
-        ⌝ }
+// The first fault of n cells from a position on, in byte order; of cells without one it says nothing.
+fn first_fault(s: &[u8], start: usize, n: usize) -> Fault
+    requires { ⌜ n ≤ 256 ⌝ }
+    ensures { λ r. ⌜ ((f : ℕ) → readCells (now (s .entry)) n start ≡ bad f → faultNumber r ≡ f) ⌝ }
 {
     let mut at = start;
-    let mut sum = People(0);
-    let mut j: usize = 0;
-    while j < columns {
-        match place_people(s, bits, j, at, always, edges) {
-            Tally::Bad(f) => {
-                return Tally::Bad(f);
+    let mut k: usize = 0;
+    while k < n {
+        match cell_at(s, at) {
+            CellRead::Bad(f) => {
+                return f;
             }
-            Tally::Good(p, next) => {
-                sum = sum.plus(p);
+            CellRead::Good(_, next) => {
                 at = next;
             }
         }
-        j += 1;
+        k += 1;
     }
-    Tally::Good(sum, at)
+    Fault::Ends
 }
 
-// A row: its bit map, then its cells.
-fn row(s: &[u8], columns: usize, at: usize, always: u32, edges: &[i32]) -> Tally
-    requires { ⌜ (columns ≤ 256) × (always ≤ 64) × (length (now edges) ≤ 256) ⌝ }
+// What is counted over cells, if each is within its limits.
+fn counted(fine: bool, counts: Counts, end: usize) -> Tally
     ensures { λ r. ⌜
-        (tallyMeans r ≡ mapRead (rowPeople always (now (edges .entry))) (readRow (now (s .entry)) columns at))
-        × (tallyPeople r ≤ 128000000 * columns)
+        (tallyMeans r ≡ cond fine (good counts end) (bad 2))
+        × ((m : ℕ) → (fine ≡ true → Small m counts) → TallySmall m r)
         ⌝ }
 {
-    let w = (columns + 7) / 8;
-    if fields::has_room(s, at, w) {
-        if clear(s, at, columns, w * 8) {
-            cells(s, at, columns, at + w, always, edges)
-        } else {
-            Tally::Bad(Fault::Limit)
-        }
-    } else {
-        Tally::Bad(Fault::Ends)
-    }
-}
-
-// The walk over an area's cells: the people of each, counted always times and once more for each box that covers them. With
-// always 1 and no box it gives the population. Sizes above what a map or a register has are refused, so every sum is exact.
-pub fn people_in(
-    s: &[u8],
-    columns: usize,
-    rows: usize,
-    start: usize,
-    always: u32,
-    edges: &[i32],
-) -> Tally
-    ensures { λ r. ⌜
-        tallyMeans r
-        ≡ cond (walkable columns rows always (length (now (edges .entry))))
-        (mapRead (gridPeople always (now (edges .entry))) (readRows (now (s .entry)) columns rows start)) (bad 2)
-        ⌝ }
-{
-    if (columns <= 256) & (rows <= 256) & (always <= 64) & (edges.len() <= 256) {
-        return walk(s, columns, rows, start, always, edges);
+    if fine {
+        return Tally::Good(counts, end);
     }
     Tally::Bad(Fault::Limit)
 }
 
-// The walk itself, one row a turn.
-fn walk(s: &[u8], columns: usize, rows: usize, start: usize, always: u32, edges: &[i32]) -> Tally
-    requires { ⌜ (columns ≤ 256) × (rows ≤ 256) × (always ≤ 64) × (length (now edges) ≤ 256) ⌝ }
+// The n cells of a row that stand in the map from a position on.
+fn bare_row(s: &[u8], start: usize, n: usize) -> Tally
+    requires { ⌜ (start + 12 * n ≤ length (now s)) × (n ≤ 256) ⌝ }
+    ensures { λ r. ⌜ (tallyMeans r ≡ mapRead (cellCounts []) (readCells (now (s .entry)) n start)) × TallySmall n r ⌝ }
+{
+    let sum = rows::sum_row(s, start, n);
+    let counts = Counts {
+        people: People(sum.people as u64),
+        cells: Cells(n as u64),
+        boxed_people: People(0),
+        boxed_cells: Cells(0),
+    };
+    counted(sum.fine, counts, start + 12 * n)
+}
+
+// The same under boxes. The cells are taken apart into three arrays, so that a box is held against several cells at once.
+fn boxed_row(
+    s: &[u8],
+    start: usize,
+    n: usize,
+    edges: &[i32],
+    people: &mut [u32; 256],
+    latitudes: &mut [i32; 256],
+    longitudes: &mut [i32; 256],
+) -> Tally
+    requires { ⌜ (start + 12 * n ≤ length (now s)) × (n ≤ 256) × (length (now edges) ≤ 256) ⌝ }
     ensures { λ r. ⌜
-        (tallyMeans r ≡ mapRead (gridPeople always (now (edges .entry))) (readRows (now (s .entry)) columns rows start))
-        × (tallyPeople r ≤ 32768000000 * rows)
+        (tallyMeans r ≡ mapRead (cellCounts (now (edges .entry))) (readCells (now (s .entry)) n start))
+        × TallySmall n r
         ⌝ }
 {
+    rows::take_row(s, start, n, people, latitudes, longitudes);
+    let row = boxes::count_row(edges, people, latitudes, longitudes, n);
+    let counts = Counts {
+        people: People(row.people as u64),
+        cells: Cells(n as u64),
+        boxed_people: People(row.boxed_people),
+        boxed_cells: Cells(row.boxed_cells),
+    };
+    counted(row.fine, counts, start + 12 * n)
+}
+
+// A row: its bit map, which tells how many cells there are, then its cells. What the three arrays hold counts for nothing.
+fn row(
+    s: &[u8],
+    columns: usize,
+    at: usize,
+    edges: &[i32],
+    people: &mut [u32; 256],
+    latitudes: &mut [i32; 256],
+    longitudes: &mut [i32; 256],
+) -> Tally
+    requires { ⌜ (columns ≤ 256) × (length (now edges) ≤ 256) ⌝ }
+    ensures { λ r. ⌜
+        (tallyMeans r ≡ mapRead (rowCounts (now (edges .entry))) (readRow (now (s .entry)) columns at))
+        × TallySmall columns r
+        ⌝ }
+{
+    let w = (columns + 7) / 8;
+    if !fields::has_room(s, at, w) {
+        return Tally::Bad(Fault::Ends);
+    }
+    if !clear(s, at, columns, w * 8) {
+        return Tally::Bad(Fault::Limit);
+    }
+    let n = rows::cells_in(s, at, w);
+    let start = at + w;
+    if !fields::has_room(s, start, 12 * n) {
+        return Tally::Bad(first_fault(s, start, n));
+    }
+    if edges.len() == 0 {
+        return bare_row(s, start, n);
+    }
+    boxed_row(s, start, n, edges, people, latitudes, longitudes)
+}
+
+// The walk over an area's rows, one row a turn: its cells and their people, and those under the boxes.
+fn walk(s: &[u8], columns: usize, rows: usize, start: usize, edges: &[i32]) -> Tally
+    requires { ⌜ (columns ≤ 256) × (rows ≤ 256) × (length (now edges) ≤ 256) ⌝ }
+    ensures { λ r. ⌜
+        (tallyMeans r ≡ mapRead (gridCounts (now (edges .entry))) (readRows (now (s .entry)) columns rows start))
+        × TallySmall (256 * rows) r
+        ⌝ }
+{
+    let mut people = [0u32; 256];
+    let mut latitudes = [0i32; 256];
+    let mut longitudes = [0i32; 256];
     let mut at = start;
-    let mut sum = People(0);
+    let mut sum = Counts::NONE;
     let mut i: usize = 0;
     while i < rows {
-        match row(s, columns, at, always, edges) {
+        match row(
+            s,
+            columns,
+            at,
+            edges,
+            &mut people,
+            &mut latitudes,
+            &mut longitudes,
+        ) {
             Tally::Bad(f) => {
                 return Tally::Bad(f);
             }
-            Tally::Good(p, next) => {
-                sum = sum.plus(p);
+            Tally::Good(c, next) => {
+                sum = sum.plus(c);
                 at = next;
             }
         }
@@ -314,40 +353,121 @@ fn head_at(s: &[u8], before: u16, at: usize) -> HeadRead
     }
 }
 
-// The area whose head was read: its rows from start, and its population.
-fn area_from(s: &[u8], h: Head, start: usize) -> AreaRead
-    requires { ⌜ (h .rows ≤ 256) × (h .columns ≤ 256) ⌝ }
-    ensures { λ r. ⌜ areaMeans r ≡ mapRead summary (readBody (now (s .entry)) (headOf h) start) ⌝ }
+// The area whose head was read: its rows from start, and what is counted over them. Its people are its population.
+fn area_from(s: &[u8], h: Head, start: usize, edges: &[i32]) -> AreaRead
+    requires { ⌜ (h .rows ≤ 256) × (h .columns ≤ 256) × (length (now edges) ≤ 256) ⌝ }
+    ensures { λ r. ⌜ areaMeans r ≡ mapRead (countedArea (now (edges .entry))) (readBody (now (s .entry)) (headOf h) start) ⌝ }
 {
-    let edges = [0i32; 4];
-    match walk(s, h.columns, h.rows, start, 1, &edges[..0]) {
+    match walk(s, h.columns, h.rows, start, edges) {
         Tally::Bad(f) => AreaRead::Bad(f),
-        Tally::Good(population, end) => {
+        Tally::Good(counts, end) => {
+            let population = counts.people;
             if !People(1).at_most(population) {
                 return AreaRead::Bad(Fault::Population);
             }
             if !population.at_most(People(40000000)) {
                 return AreaRead::Bad(Fault::Population);
             }
-            AreaRead::Good(Area {
-                number: h.number,
-                weight: h.weight,
-                rows: h.rows,
-                columns: h.columns,
-                population,
-                start,
-                end,
+            AreaRead::Good(CountedArea {
+                area: Area {
+                    number: h.number,
+                    weight: h.weight,
+                    rows: h.rows,
+                    columns: h.columns,
+                    population,
+                    start,
+                    end,
+                },
+                counts,
             })
         }
     }
 }
 
-// The area at a position, with a number above the one before.
-pub fn area_at(s: &[u8], before: u16, at: usize) -> AreaRead
-    ensures { λ r. ⌜ areaMeans r ≡ mapRead summary (readArea (now (s .entry)) before at) ⌝ }
+// The area at a position, with a number above the one before, counted under boxes.
+pub fn area_at(s: &[u8], before: u16, at: usize, edges: &[i32]) -> AreaRead
+    requires { ⌜ length (now edges) ≤ 256 ⌝ }
+    ensures { λ r. ⌜ areaMeans r ≡ mapRead (countedArea (now (edges .entry))) (readArea (now (s .entry)) before at) ⌝ }
 {
     match head_at(s, before, at) {
         HeadRead::Bad(f) => AreaRead::Bad(f),
-        HeadRead::Good(h, start) => area_from(s, h, start),
+        HeadRead::Good(h, start) => area_from(s, h, start, edges),
+    }
+}
+
+// The area at a position, counted under boxes only if it has the number that is sought, so that no other area costs more than its check.
+fn area_for(s: &[u8], before: u16, at: usize, number: u16, edges: &[i32]) -> AreaRead
+    requires { ⌜ length (now edges) ≤ 256 ⌝ }
+    ensures { λ r. ⌜ areaMeans r ≡ mapRead (countedFor number (now (edges .entry))) (readArea (now (s .entry)) before at) ⌝ }
+{
+    match head_at(s, before, at) {
+        HeadRead::Bad(f) => AreaRead::Bad(f),
+        HeadRead::Good(h, start) => {
+            if h.number == number {
+                return area_from(s, h, start, edges);
+            }
+            area_from(s, h, start, &edges[..0])
+        }
+    }
+}
+
+// What is found after one more area.
+fn keep(found: Sought, a: CountedArea, number: u16) -> Sought
+    ensures { λ r. ⌜ r ≡ kept found a number ⌝ }
+{
+    match found {
+        Sought::Refused(f) => Sought::Refused(f),
+        Sought::Lacking => {
+            let area = a.area;
+            if area.number == number {
+                Sought::At(a)
+            } else {
+                Sought::Lacking
+            }
+        }
+        Sought::At(b) => Sought::At(b),
+    }
+}
+
+// The areas of a map, from the first one's position to the end of the map.
+fn areas(map: &[u8], number: u16, edges: &[i32], count: u32, first: usize) -> Sought
+    requires { ⌜ (count ≤ 32) × (length (now edges) ≤ 256) ⌝ }
+    ensures { λ r. ⌜
+        soughtMeans r ≡ seek (countedArea (now (edges .entry))) number (readRest (now (map .entry)) count first)
+        ⌝ }
+{
+    let mut at = first;
+    let mut before: u16 = 0;
+    let mut found = Sought::Lacking;
+    let mut k: u32 = 0;
+    while k < count {
+        match area_for(map, before, at, number, edges) {
+            AreaRead::Bad(f) => {
+                return Sought::Refused(f);
+            }
+            AreaRead::Good(a) => {
+                found = keep(found, a, number);
+                let area = a.area;
+                before = area.number;
+                at = area.end;
+            }
+        }
+        k += 1;
+    }
+    if at == map.len() {
+        found
+    } else {
+        Sought::Refused(Fault::Extra)
+    }
+}
+
+// The area with a number, counted under boxes, in a map that is checked whole.
+pub fn find(map: &[u8], number: u16, edges: &[i32]) -> Sought
+    requires { ⌜ length (now edges) ≤ 256 ⌝ }
+    ensures { λ r. ⌜ soughtMeans r ≡ seek (countedArea (now (edges .entry))) number (readMap (now (map .entry))) ⌝ }
+{
+    match fields::u8_field(map, 0, 1, 32) {
+        Field::Bad(f) => Sought::Refused(f),
+        Field::Good(count, first) => areas(map, number, edges, count, first),
     }
 }

@@ -2,7 +2,7 @@
 use Prim.Native.Nat.{ℕ, _+_, _-_, _*_, _/_, _%_, _≤_, _<_}
 use mathlib.Core.Path.{_≡_, sym, ap, _∙_, subst}
 use mathlib.Core.List.{List, []}
-use mathlib.Core.Bool.{Bool, true, cond}
+use mathlib.Core.Bool.{Bool, cond}
 use native.Mathlib.Omega.{arith}
 use native.Mathlib.Nat.{zero-mul, add-zero, mul-add-div-right, div-eq-of-lt, mul-add-mod-self-right, mod-eq-of-lt}
 use lib.Dec.{ltb}
@@ -17,8 +17,8 @@ use Rattle.lists.proofs.InPlace.{Rewritten, starts, turns, row-turns, row-ends,
 use Rattle.map.specs.Reading.{Read, good}
 use Rattle.map.specs.Format.{Place, gap, peopleAt, bitMapBytes, readPlace, readRow, readRows}
 use Rattle.places.specs.declared.Shown.{Shown}
-use Rattle.places.specs.Places.{placeOf, isCell, isCovered, Lists, Laid}
-use Rattle.places.specs.Rows.{IsGood, Shows, PlaceShown, PlacesLaid, RowLaid, RowsLaid}
+use Rattle.places.specs.Places.{placeOf, isCell, isCovered, IsGood, Lists, Laid, PlacesLaid, LaidOut}
+use Rattle.places.specs.Rows.{Shows, PlaceShown, RowLaid}
 use Rattle.places.proofs.ReadLaws.{given, row-parts, Left, left-starts, left-turns, left-ends}
 
 -- ---- one list
@@ -47,7 +47,7 @@ module _ {n : ℕ} {f : ℕ → ℕ} {before now : List ℕ} {i : ℕ} (c : Put 
   -- a row of so many columns is put into the part from place i on
   put-row : (g : ℕ → ℕ) (part : List ℕ) (columns : ℕ) → i + columns ≤ n → n ≤ length before
       → length part ≡ length (take (length now - i) (drop i now))
-      → Laid true columns g (take (length now - i) (drop i now)) part
+      → Laid columns g (take (length now - i) (drop i now)) part
       → ((j : ℕ) → j < columns → g j ≡ f (i + j))
       → Put n f before (putMid i (length now - i) now part) (i + columns)
   put-row g part columns h l k e same = record {
@@ -56,7 +56,7 @@ module _ {n : ℕ} {f : ℕ → ℕ} {before now : List ℕ} {i : ℕ} (c : Put 
         (put-past columns g);
   }
 
-  put-ends : n ≤ i → Laid true n f before now
+  put-ends : n ≤ i → Laid n f before now
   put-ends h = ends (c .is) n h (put-past n f)
 
 -- ---- the three lists
@@ -268,9 +268,9 @@ module _
           laid = lay-row (c .laid) part columns (row-fits h) l k (laid .0) (λ j o. place-in-row (c .grid) r columns at j (c .place) o);
         }
 
-    pub rows-end : rows ≤ r → RowsLaid (readRows s columns rows start) columns rows always edges before now
+    pub rows-end : rows ≤ r → LaidOut (readRows s columns rows start) columns rows always edges before now
     rows-end h =
         let all : r ≡ rows = omega (arith, c .walk .inside) in
         let e : at ≡ rows * columns = c .place ∙ ap (λ (k : ℕ). k * columns) all in
-        subst (λ (x : Read (List (List Place))). RowsLaid x columns rows always edges before now) (sym (c .reads))
+        subst (λ (x : Read (List (List Place))). LaidOut x columns rows always edges before now) (sym (c .reads))
         (lay-ends (c .laid) (omega arith))

@@ -2,7 +2,7 @@
 use Prim.Native.Nat.{ℕ, zero, suc, _+_, _*_, _/_, _%_, _≤_}
 use mathlib.Core.Path.{_≡_, refl, sym, ap, subst, _∙_}
 use mathlib.Core.List.{List, []}
-use mathlib.Core.Bool.{Bool, true, cond}
+use mathlib.Core.Bool.{Bool, cond}
 use native.Mathlib.Omega.{arith}
 use native.Mathlib.Nat.{suc-mul, zero-mul}
 use lib.Dec.{ltb}
@@ -10,16 +10,13 @@ use lib.ListN.{length, getD, take, List·getD-eq-default}
 use lib.Seq.{take-length}
 use borrow.Author.Tests.{ltb-true, ltb-false}
 use Rattle.lists.specs.Sums.{All, total, sumBelow}
-use Rattle.lists.proofs.Tests.{by-test, both}
+use Rattle.lists.proofs.Tests.{by-test}
 use Rattle.lists.proofs.SumLaws.{all-getD, total-next}
 use Rattle.lists.proofs.BelowLaws.{sum-same, sum-from}
-use Rattle.map.specs.Reading.{Read, good}
 use Rattle.map.specs.Format.{Place, gap, cell, peopleAt, population}
-use Rattle.map.specs.Counting.{walkable}
 use Rattle.map.specs.Accepted.{PlaceHolds, RowHolds, GridHolds}
-use Rattle.places.specs.Places.{placeOf, isCell, isRead, Lists, canLayOut}
+use Rattle.places.specs.Places.{placeOf, isCell}
 use Rattle.places.proofs.LayLaws.{place-in-row}
-use Rattle.places.proofs.OutLaws.{can-all}
 
 -- ---- one place
 
@@ -94,13 +91,3 @@ module _ (columns rows : ℕ) (grid : List (List Place)) (g : GridHolds columns 
   people-sum =
       rows-sum rows (omega arith)
       ∙ ap (total (total peopleAt)) (ap (λ (k : ℕ). take k grid) (sym (g .0)) ∙ take-length grid)
-
--- ---- the test of `lay_out`
-
--- rows that are read, sizes that a walk takes and lists that are long enough pass it
-pub can-in : (reading : Read (List (List Place))) (columns rows always edges : ℕ) (l : Lists) {grid : List (List Place)} {e : ℕ}
-    → walkable columns rows always edges ≡ true → reading ≡ good grid e
-    → rows * columns ≤ length (l .people) → rows * columns ≤ length (l .cells) → rows * columns ≤ length (l .mask)
-    → canLayOut reading columns rows always edges l ≡ true
-can-in reading columns rows always edges l w q p c m =
-    can-all reading columns rows always edges l (both w (ap isRead q)) (record { people = p; cells = c; mask = m })

@@ -9,7 +9,7 @@ use Rattle.map.specs.Reading.{Read, bad, good, bind, many}
 use Rattle.map.specs.Format.{Place, bitMapBytes, bitMapField, readPlace, readRow}
 use Rattle.map.proofs.Onward.{Gives, FieldHas, gives-field}
 use Rattle.map.proofs.LoopLaws.{sub-step, sub-end}
-use Rattle.places.specs.Rows.{IsGood}
+use Rattle.places.specs.Places.{IsGood}
 
 -- what a reading that is not refused gives
 pub record Given {A : Type 0} (r : Read A) : Type 0 where

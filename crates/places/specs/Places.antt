@@ -2,14 +2,14 @@
 use Prim.Native.Nat.{ℕ, _+_, _*_, _/_, _%_}
 use mathlib.Core.Path.{_≡_}
 use mathlib.Core.List.{List, []}
-use mathlib.Core.Bool.{Bool, true, false, cond, _&&_}
-use lib.Dec.{ltb, leb}
+use mathlib.Core.Bool.{Bool, true, false, cond}
+use lib.Dec.{ltb}
 use lib.IntN.{ℤ}
-use lib.ListN.{length, getD}
+use lib.ListN.{getD}
 use Rattle.lists.specs.Sums.{flag}
 use Rattle.map.specs.Reading.{Read, bad, good}
 use Rattle.map.specs.Format.{Place, gap, cell, peopleAt}
-use Rattle.map.specs.Counting.{boxesOver, walkable}
+use Rattle.boxes.specs.Boxes.{boxesOver}
 
 -- "by row then column": what stands at place i of a grid with so many columns
 abbrev pub placeOf : List (List Place) → (columns i : ℕ) → Place
@@ -30,9 +30,10 @@ abbrev pub gridOf : Read (List (List Place)) → List (List Place)
 gridOf (bad f) = []
 gridOf (good grid e) = grid
 
-abbrev pub isRead : Read (List (List Place)) → Bool
-isRead (bad f) = false
-isRead (good grid e) = true
+-- a reading that is not refused
+abbrev pub IsGood : {A : Type 0} → Read A → Type 0
+IsGood (bad f) = ⊥
+IsGood (good a e) = Unit {0}
 
 -- the three lists of an area: the people of each place, 1 where it has a cell, and 1 where a licence covers the cell
 pub record Lists : Type 0 where
@@ -40,21 +41,17 @@ pub record Lists : Type 0 where
   pub cells : List ℕ
   pub mask : List ℕ
 
--- the rows are read, the sizes are those that a walk takes, and each list has an element for each place
-unfoldable pub canLayOut : Read (List (List Place)) → (columns rows always edges : ℕ) → Lists → Bool
-canLayOut reading columns rows always edges l =
-    walkable columns rows always edges && isRead reading
-    && leb (rows * columns) (length (l .people)) && leb (rows * columns) (length (l .cells)) && leb (rows * columns) (length (l .mask))
+-- a list with a number put at each of the n places of an area; the elements past them stay
+abbrev pub Laid : (n : ℕ) → (put : ℕ → ℕ) → (before after : List ℕ) → Type 0
+Laid n put before after = (i : ℕ) → getD after i 0 ≡ cond (ltb i n) (put i) (getD before i 0)
 
--- a list with a number put at each of the n places of an area; the elements past them stay, and without leave nothing is put
-abbrev pub Laid : (can : Bool) → (n : ℕ) → (put : ℕ → ℕ) → (before after : List ℕ) → Type 0
-Laid can n put before after = (i : ℕ) → getD after i 0 ≡ cond (can && ltb i n) (put i) (getD before i 0)
+-- n places are laid into the three lists: `at i` is what stands at place i
+pub record PlacesLaid (at : ℕ → Place) (n always : ℕ) (edges : List ℤ) (before after : Lists) : Type 0 where
+  pub people : Laid n (λ i. peopleAt (at i)) (before .people) (after .people)
+  pub cells : Laid n (λ i. flag (isCell (at i))) (before .cells) (after .cells)
+  pub mask : Laid n (λ i. flag (isCovered always edges (at i))) (before .mask) (after .mask)
 
--- what `lay_out` does to the three lists
-pub record LaidOut (reading : Read (List (List Place))) (columns rows always : ℕ) (edges : List ℤ) (before after : Lists) : Type 0 where
-  pub people : Laid (canLayOut reading columns rows always (length edges) before) (rows * columns)
-      (λ i. peopleAt (placeOf (gridOf reading) columns i)) (before .people) (after .people)
-  pub cells : Laid (canLayOut reading columns rows always (length edges) before) (rows * columns)
-      (λ i. flag (isCell (placeOf (gridOf reading) columns i))) (before .cells) (after .cells)
-  pub mask : Laid (canLayOut reading columns rows always (length edges) before) (rows * columns)
-      (λ i. flag (isCovered always edges (placeOf (gridOf reading) columns i))) (before .mask) (after .mask)
+-- what `lay_out` does to the three lists, for rows that are read
+abbrev pub LaidOut : Read (List (List Place)) → (columns rows always : ℕ) → (edges : List ℤ) → (before after : Lists) → Type 0
+LaidOut reading columns rows always edges before after =
+    PlacesLaid (placeOf (gridOf reading) columns) (rows * columns) always edges before after

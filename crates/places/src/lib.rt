@@ -1,16 +1,13 @@
 // An area's cells by place: people, cells and covered cells, decoded once from the rows of a map.
 use map::parts::PlaceRead;
-use map::parts::Tally;
 ghost use mathlib.Core.Path.{_≡_};
-ghost use mathlib.Core.Bool.{_&&_};
 ghost use Prim.Native.Nat.{_*_, _≤_};
 ghost use lib.Dec.{ltb};
 ghost use lib.ListN.{length};
 ghost use Rattle.lists.specs.Sums.{flag};
 ghost use Rattle.map.specs.Format.{readPlace, readRow, readRows};
-ghost use Rattle.map.specs.Counting.{walkable};
-ghost use Rattle.places.specs.Places.{LaidOut, isRead};
-ghost use Rattle.places.specs.Rows.{IsGood, PlaceShown, RowLaid, RowsLaid};
+ghost use Rattle.places.specs.Places.{IsGood, LaidOut};
+ghost use Rattle.places.specs.Rows.{PlaceShown, RowLaid};
 
 // What is laid for a place, and the position after what stands there.
 struct Shown {
@@ -50,7 +47,7 @@ fn show(map: &[u8], bits: usize, j: usize, at: usize, always: u32, edges: &[i32]
         PlaceRead::There(c, next) => Shown {
             people: c.people,
             cell: 1,
-            covered: mark(always + map::parts::covering(edges, c.latitude, c.longitude)),
+            covered: mark(always + boxes::boxes_over(edges, c.latitude, c.longitude)),
             next,
         },
     }
@@ -88,8 +85,11 @@ fn lay_row(
     next
 }
 
-// Lays the rows that start at a position, one after another, each into the parts of the lists from its first place on.
-fn lay_rows(
+// Lays an area's rows into three lists, one element for each place, row by row: the people of the place, 1 if it has a cell, and 1
+// if a licence covers the cell. The area's rows start at a position of the map; always licences have the whole area, and edges are
+// those of the boxes. Each row goes into the parts of the lists from its first place on. The rows must have been read before, so they
+// are walked here once and without a test of the whole.
+pub fn lay_out(
     map: &[u8],
     columns: usize,
     rows: usize,
@@ -105,7 +105,7 @@ fn lay_rows(
         × (length (now edges) ≤ 256) × (rows * columns ≤ length (now people)) × (rows * columns ≤ length (now cells))
         × (rows * columns ≤ length (now mask))
         ⌝ }
-    ensures { λ _. ⌜ RowsLaid (readRows (now (map .entry)) columns rows start) columns rows always (now (edges .entry))
+    ensures { λ _. ⌜ LaidOut (readRows (now (map .entry)) columns rows start) columns rows always (now (edges .entry))
         (record { people = now (people .entry); cells = now (cells .entry); mask = now (mask .entry) })
         (record { people = now (people .exit); cells = now (cells .exit); mask = now (mask .exit) }) ⌝ }
 {
@@ -126,74 +126,4 @@ fn lay_rows(
         at += columns;
         i += 1;
     }
-}
-
-// Whether the rows can be read, with sizes that a walk takes. The boxes count for nothing here, so the walk gets none.
-fn readable(
-    map: &[u8],
-    columns: usize,
-    rows: usize,
-    start: usize,
-    always: u32,
-    edges: &[i32],
-) -> bool
-    ensures { λ r. ⌜
-        r
-        ≡ walkable columns rows always (length (now (edges .entry))) && isRead (readRows (now (map .entry)) columns rows start)
-        ⌝ }
-{
-    if 64 < always {
-        return false;
-    }
-    if 256 < edges.len() {
-        return false;
-    }
-    match map::parts::people_in(map, columns, rows, start, 0, &edges[..0]) {
-        Tally::Bad(_) => false,
-        Tally::Good(_, _) => true,
-    }
-}
-
-// Lays an area's rows into three lists, one element for each place, row by row: the people of the place, 1 if it has a cell, and 1
-// if a licence covers the cell. The area's rows start at a position of the map; always licences have the whole area, and edges are
-// those of the boxes. Rows that can't be read, or a list that is too short, leave the lists as they are.
-pub fn lay_out(
-    map: &[u8],
-    columns: usize,
-    rows: usize,
-    start: usize,
-    always: u32,
-    edges: &[i32],
-    people: &mut [u32],
-    cells: &mut [u8],
-    mask: &mut [u8],
-)
-    ensures { λ _. ⌜ LaidOut (readRows (now (map .entry)) columns rows start) columns rows always (now (edges .entry))
-        (record { people = now (people .entry); cells = now (cells .entry); mask = now (mask .entry) })
-        (record { people = now (people .exit); cells = now (cells .exit); mask = now (mask .exit) }) ⌝ }
-{
-    if !readable(map, columns, rows, start, always, edges) {
-        return;
-    }
-    let n = rows * columns;
-    if people.len() < n {
-        return;
-    }
-    if cells.len() < n {
-        return;
-    }
-    if mask.len() < n {
-        return;
-    }
-    lay_rows(
-        map,
-        columns,
-        rows,
-        start,
-        always,
-        edges,
-        people,
-        cells,
-        mask,
-    );
 }

@@ -16,7 +16,7 @@ use Rattle.search.specs.Proposal.{propose, inLimits, noAnswer}
 use Rattle.search.proofs.LimitLaws.{limits-pass}
 use Rattle.proposal.specs.declared.AreaAnswer.{AreaAnswer}
 use Rattle.proposal.specs.declared.Outcome.{Outcome}
-use Rattle.proposal.specs.declared.Partials.{Partials}
+use Rattle.proposal.specs.declared.parts.Partials.{Partials}
 use Rattle.proposal.specs.declared.Proposal as proposed
 use Rattle.proposal.specs.Choices.{partials, share, partAreas}
 use Rattle.proposal.specs.Best.{tied, chosen}

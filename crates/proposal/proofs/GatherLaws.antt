@@ -24,7 +24,7 @@ use Rattle.coverage.specs.Answers.{noBlocks, noHolding}
 use Rattle.coverage.proofs.BlockLaws.{blocks-exact, partial-sized, value-small, size-small}
 use Rattle.search.specs.Choice.{largestSize, largestWeight}
 use Rattle.search.specs.Proposal as searched
-use Rattle.proposal.specs.declared.Partials.{Partials}
+use Rattle.proposal.specs.declared.parts.Partials.{Partials}
 use Rattle.proposal.specs.Choices.{partials, totalValue}
 use Rattle.proposal.specs.Code.{sizes, weights, Bounded, Gathered}
 

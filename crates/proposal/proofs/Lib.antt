@@ -8,3 +8,4 @@ pub mod Theorems
 pub mod AnswerLaws
 pub mod MapLaws
 pub mod EmptyLaws
+pub mod PeopleOnly

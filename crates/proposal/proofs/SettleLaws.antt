@@ -17,15 +17,19 @@ use Rattle.search.specs.Choice.{Mark}
 use Rattle.proposal.specs.declared.Gets as got
 use Rattle.proposal.specs.declared.AreaAnswer.{AreaAnswer}
 use Rattle.proposal.specs.Choices.{partials}
-use Rattle.proposal.specs.Answer.{getsNothing, getsBy, Given, firstMark, laterMarks, given}
+use Rattle.proposal.specs.Answer.{Gets, getsNothing, getsBy, Given, firstMark, laterMarks, given}
 use Rattle.proposal.specs.Contracts.{getsMeans, areaMeans, blank}
 use Rattle.proposal.specs.Code.{Bounded, markOf, decode, Settled}
 use Rattle.proposal.proofs.GatherLaws.{all-given, from-place, sized}
 
 -- what one area is given, by the entry and the set number that are left
 abbrev pub givenAt : (kind sh : ℕ) → Holding → (e n : ℕ) → Given
-givenAt kind sh a e n =
-    record { number = a .number; blocks = wholeBlocks a; gets = cond (partial a) (getsBy kind sh (markOf e n)) getsNothing }
+givenAt kind sh a e n = record {
+  number = a .number;
+  blocks = wholeBlocks a;
+  cells = a .cells .0;
+  gets = cond (partial a) (getsBy kind sh (markOf e n)) getsNothing;
+}
 
 -- what the areas are given
 abbrev pub givenFrom : (kind sh : ℕ) → List Holding → (e n : ℕ) → List Given
@@ -43,10 +47,13 @@ given-more kind sh a areas e n = go (partial a)
     marks : Bool → List Mark
     marks b = decode (length (cond b (a ∷ P) P)) e n
 
+    one : Gets → Given
+    one g = record { number = a .number; blocks = wholeBlocks a; cells = a .cells .0; gets = g }
+
     go : (b : Bool) → _≡_ {A = List Given}
-        (record { number = a .number; blocks = wholeBlocks a; gets = cond b (getsBy kind sh (firstMark (marks b))) getsNothing }
+        (one (cond b (getsBy kind sh (firstMark (marks b))) getsNothing)
         ∷ given kind sh areas (cond b (laterMarks (marks b)) (marks b)))
-        (record { number = a .number; blocks = wholeBlocks a; gets = cond b (getsBy kind sh (markOf e n)) getsNothing }
+        (one (cond b (getsBy kind sh (markOf e n)) getsNothing)
         ∷ given kind sh areas (decode (length P) (cond b (e - 1) e) (cond b (n / 2) n)))
     go true = refl
     go false = refl
@@ -72,6 +79,9 @@ module _ {areas : List Holding} {count kind sh e₀ n₀ i e n : ℕ} {r : List 
   abbrev here : Holding
   here = getD areas i noHolding
 
+  abbrev answer : got.Gets → AreaAnswer
+  answer m = record { number = here .number; blocks = x .whole; cells = here .cells; gets = m }
+
   inside : i < length r
   inside = omega (arith, g .room, b .few)
 
@@ -93,16 +103,17 @@ module _ {areas : List Holding} {count kind sh e₀ n₀ i e n : ℕ} {r : List 
   pub settle-turns : (m : got.Gets) (e′ n′ : ℕ) →
       getsMeans m ≡ cond (ltb 0 (x .size .0)) (getsBy kind sh (markOf e n)) getsNothing →
       e′ ≡ cond (ltb 0 (x .size .0)) (e - 1) e → n′ ≡ cond (ltb 0 (x .size .0)) (n / 2) n →
-      Settling all kind sh e₀ n₀ (i + 1) e′ n′ (set r i (record { number = here .number; blocks = x .whole; gets = m }))
+      Settling all kind sh e₀ n₀ (i + 1) e′ n′ (set r i (answer m))
   unfolding blocksOf
   settle-turns m e′ n′ mm ee ne =
       let later = givenFrom kind sh (drop (i + 1) all) in
       let is-partial : ltb 0 (x .size .0) ≡ partial here = sym (sized b h x of) in
-      let new : AreaAnswer = record { number = here .number; blocks = x .whole; gets = m } in
+      let new : AreaAnswer = answer m in
       let is : areaMeans new ≡ givenAt kind sh here e n =
       λ j. record {
         number = here .number;
         blocks = of j .whole;
+        cells = here .cells .0;
         gets = (mm ∙ ap (λ q. cond q (getsBy kind sh (markOf e n)) getsNothing) is-partial) j;
       } in
       let e-is : e′ ≡ cond (partial here) (e - 1) e = ee ∙ ap (λ q. cond q (e - 1) e) is-partial in

@@ -3,7 +3,7 @@ use Prim.Native.Nat.{ℕ, zero, suc, _+_, _%_, _<_, _≤_}
 use mathlib.Core.Path.{_≡_, refl, sym, ap, subst, _∙_}
 use mathlib.Core.Bool.{Bool, true, false, cond, true≢false, false≢true}
 use mathlib.Core.Logic.{_↔_}
-use mathlib.Core.List.{List, [], _∷_, List·Memᴰ}
+use mathlib.Core.List.{List, [], _∷_, map, List·Memᴰ}
 use native.Mathlib.Omega.{arith}
 use lib.Dec.{ltb, eqb}
 use lib.ListN.{length, getD, length-append}
@@ -26,6 +26,9 @@ use Rattle.proposal.specs.Answer.{
   firstMark,
   laterMarks,
   given,
+  AreaCells,
+  cellsGiven,
+  cellsShown,
   refusedBy,
   answerOf,
   proposal,
@@ -179,6 +182,20 @@ pub proposed-is : (areas : List Holding) (draw : ℕ) → length (partials areas
 unfolding proposal
 proposed-is areas draw few =
     sym (ap (λ b. cond b (refusedBy 12) (answerOf areas (chosen (partials areas) draw))) (le-ltb 20 (length (partials areas)) few))
+
+-- document 02, Paper 1: "The proposal shows the sum of cells for each map area": that of each area, whatever the choice
+abbrev pub cellsHeld : Holding → AreaCells
+cellsHeld a = record { number = a .number; cells = a .cells .0 }
+
+given-cells : (kind sh : ℕ) (areas : List Holding) (c : List Mark) → map cellsGiven (given kind sh areas c) ≡ map cellsHeld areas
+unfolding given
+given-cells kind sh [] c = refl
+given-cells kind sh (a ∷ areas) c = ap (λ l. cellsHeld a ∷ l) (given-cells kind sh areas _)
+
+pub shows-cells : (areas : List Holding) (draw : ℕ) → length (partials areas) ≤ 20
+    → cellsShown (proposal areas draw) ≡ map cellsHeld areas
+unfolding answerOf
+shows-cells areas draw few = ap cellsShown (sym (proposed-is areas draw few)) ∙ given-cells _ _ areas _
 
 -- "12: more than 20 partial areas": the number that comes over an accepted map
 pub refused-by : (areas : List Holding) (draw : ℕ) → proposal areas draw .refused ≡ cond (ltb 20 (length (partials areas))) 12 0

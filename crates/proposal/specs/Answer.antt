@@ -1,7 +1,7 @@
 -- Document 01, "The proposal": the answer. Assumes nothing.
 use Prim.Native.Nat.{ℕ}
 use mathlib.Core.Bool.{cond}
-use mathlib.Core.List.{List, [], _∷_}
+use mathlib.Core.List.{List, [], _∷_, map}
 use lib.Dec.{ltb, eqb}
 use lib.ListN.{length}
 use Rattle.map.specs.Reading.{Read, bad, good}
@@ -32,10 +32,11 @@ getsBy kind sh out = getsNothing
 getsBy kind sh whole = getsWhole
 getsBy kind sh part = cond (eqb kind 2) getsRoundedUp (getsShare sh)
 
--- "for each map area its whole blocks and what it gets"
+-- "for each map area its whole blocks and what it gets"; document 02, Paper 1: "The proposal shows the sum of cells for each map area"
 pub record Given : Type 0 where
   pub number : ℕ
   pub blocks : ℕ
+  pub cells : ℕ
   pub gets : Gets
 
 -- the mark of the next partial area, and the marks after it
@@ -47,11 +48,17 @@ unfoldable pub laterMarks : List Mark → List Mark
 laterMarks [] = []
 laterMarks (m ∷ c) = c
 
--- each area of the map; the partial ones take the choice's marks in turn, and any other gets nothing beside its whole blocks
+-- each area of the map with its sum of cells; the partial ones take the choice's marks in turn, and any other gets nothing beside its
+-- whole blocks
 unfoldable pub given : (kind sh : ℕ) → (areas : List Holding) → List Mark → List Given
 given kind sh [] c = []
 given kind sh (a ∷ areas) c =
-    record { number = a .number; blocks = wholeBlocks a; gets = cond (partial a) (getsBy kind sh (firstMark c)) getsNothing }
+    record {
+      number = a .number;
+      blocks = wholeBlocks a;
+      cells = a .cells .0;
+      gets = cond (partial a) (getsBy kind sh (firstMark c)) getsNothing;
+    }
     ∷ given kind sh areas (cond (partial a) (laterMarks c) c)
 
 -- "The answer: kind, T, white space, tied count, and for each map area ..". `refused` is 0, or the number of the refusal
@@ -62,6 +69,18 @@ pub record Proposal : Type 0 where
   pub white : ℕ
   pub tied : ℕ
   pub areas : List Given
+
+-- document 02, Paper 1: "the sum of cells for each map area": an area's number with its sum
+pub record AreaCells : Type 0 where
+  pub number : ℕ
+  pub cells : ℕ
+
+abbrev pub cellsGiven : Given → AreaCells
+cellsGiven g = record { number = g .number; cells = g .cells }
+
+-- "The proposal shows the sum of cells for each map area": what it shows
+abbrev pub cellsShown : Proposal → List AreaCells
+cellsShown p = map cellsGiven (p .areas)
 
 -- a refusal by its number, which comes alone: everything else is 0
 unfoldable pub refusedBy : ℕ → Proposal

@@ -13,7 +13,7 @@ use Rattle.search.specs.Choice.{Mark, out, whole, part}
 use Rattle.proposal.specs.declared.AreaAnswer.{AreaAnswer}
 use Rattle.proposal.specs.declared.Outcome.{Outcome}
 use Rattle.proposal.specs.declared.Outcome.the-variants.{Exact, RoundedUp, OnePart}
-use Rattle.proposal.specs.declared.Partials.{Partials}
+use Rattle.proposal.specs.declared.parts.Partials.{Partials}
 use Rattle.proposal.specs.Choices.{partials, totalValue}
 use Rattle.proposal.specs.Answer.{given}
 use Rattle.proposal.specs.Contracts.{areaMeans, blank}

@@ -19,9 +19,9 @@ getsMeans gets.Whole = getsWhole
 getsMeans gets.RoundedUp = getsRoundedUp
 getsMeans (gets.Share w) = getsShare (w .0)
 
--- "for each map area its whole blocks and what it gets"
+-- "for each map area its whole blocks and what it gets", with "the sum of cells for each map area"
 abbrev pub areaMeans : AreaAnswer → Given
-areaMeans a = record { number = a .number; blocks = a .blocks; gets = getsMeans (a .gets) }
+areaMeans a = record { number = a .number; blocks = a .blocks; cells = a .cells .0; gets = getsMeans (a .gets) }
 
 -- the number of a refusal: "Proposal: 1 to 5, 12"; 0 where nothing is refused
 abbrev pub refusalNumber : Outcome → ℕ
@@ -51,7 +51,7 @@ means r = record {
 
 -- what stands at an entry past the map's areas
 abbrev pub blank : AreaAnswer
-blank = record { number = 0; blocks = 0; gets = gets.Nothing }
+blank = record { number = 0; blocks = 0; cells = record { 0 = 0 }; gets = gets.Nothing }
 
 -- "What a contract pins": the answer means the proposal of the definitions, `count` is the number of its areas, and every entry past
 -- them is blank

@@ -4,4 +4,5 @@ pub mod Best
 pub mod Answer
 pub mod Contracts
 pub mod Demand
+pub mod PeopleOnly
 pub mod Code

@@ -1,19 +1,18 @@
-// Document 01, "The proposal": which partial areas a carrier gets whole, and the one that it gets in part. The way in is propose.
-use coverage::Holding;
+// Document 01, "The proposal": which partial areas a carrier gets whole, and the one that it gets in part. The way in is propose; the
+// module parts serves the crates above.
+pub mod parts;
+
 use map::Checked;
 use map::Fault;
 use register::Register;
+use units::Cells;
 use units::Weighted;
 ghost use mathlib.Core.Path.{_≡_};
-ghost use mathlib.Core.Bool.{cond};
-ghost use Prim.Native.Nat.{_-_, _/_, _≤_};
-ghost use lib.ListN.{length, take};
 ghost use Rattle.map.specs.Format.{readMap};
 ghost use Rattle.register.specs.Licences.{inForce};
-ghost use Rattle.search.specs.Choice.{cap};
-ghost use Rattle.proposal.specs.Answer.{getsBy, getsNothing, refusedBy, proposal, proposalOn};
-ghost use Rattle.proposal.specs.Contracts.{getsMeans, refusalNumber, kindNumber, Answers};
-ghost use Rattle.proposal.specs.Code.{Bounded, Gathered, markOf, outcomeOf, Settled};
+ghost use Rattle.proposal.specs.Answer.{refusedBy, proposalOn};
+ghost use Rattle.proposal.specs.Contracts.{refusalNumber, kindNumber, Answers};
+ghost use Rattle.proposal.specs.Code.{outcomeOf};
 
 // What an area gets: nothing, whole, rounded up, or a share with its amount.
 pub enum Gets {
@@ -23,10 +22,11 @@ pub enum Gets {
     Share(Weighted),
 }
 
-// An area of the map: its number, its whole blocks and what it gets.
+// An area of the map: its number, its whole blocks, its sum of cells (document 02, Paper 1) and what it gets.
 pub struct AreaAnswer {
     pub number: u16,
     pub blocks: u64,
+    pub cells: Cells,
     pub gets: Gets,
 }
 
@@ -54,20 +54,12 @@ pub struct Proposal {
     pub areas: [AreaAnswer; 32],
 }
 
-// The partial areas: the first count of sizes and weights, and the sum of their values. Sizes are weighted MHz-pops; they are plain
-// numbers because the search is lent slices of them.
-pub struct Partials {
-    pub count: usize,
-    pub target: Weighted,
-    pub sizes: [u64; 32],
-    pub weights: [u64; 32],
-}
-
 impl AreaAnswer {
     // What stands at the entries past the areas of a map.
     const NONE: AreaAnswer = AreaAnswer {
         number: 0,
         blocks: 0,
+        cells: Cells(0),
         gets: Gets::Nothing,
     };
 }
@@ -125,152 +117,6 @@ fn refused(outcome: Outcome) -> Proposal
     }
 }
 
-// The share of the partial area at an entry, or 0 if there is none.
-fn share_at(sizes: &[u64], entry: usize, white: u64) -> Weighted
-    requires { ⌜ (entry ≤ length (now sizes)) × (white ≤ cap (now sizes) entry) ⌝ }
-    ensures { λ r. ⌜ r .0 ≡ cap (now (sizes .entry)) entry - white ⌝ }
-{
-    if entry == 0 {
-        return Weighted(0);
-    }
-    let size = sizes[entry - 1];
-    let share = size - white;
-    Weighted(share)
-}
-
-// What an area gets, by the entry and the set number that are left: it is the partial one at entry 1, and whole at an odd number.
-fn gets_at(partial: bool, kind: u64, share: Weighted, entry: usize, number: u32) -> Gets
-    ensures { λ r. ⌜ getsMeans r ≡ cond partial (getsBy kind (share .0) (markOf entry number)) getsNothing ⌝ }
-{
-    if !partial {
-        return Gets::Nothing;
-    }
-    if entry == 1 {
-        if kind == 2 {
-            return Gets::RoundedUp;
-        }
-        return Gets::Share(share);
-    }
-    if number % 2 == 1 {
-        return Gets::Whole;
-    }
-    Gets::Nothing
-}
-
-// The entry that is left for the areas after this one.
-fn entry_after(partial: bool, entry: usize) -> usize
-    ensures { λ r. ⌜ r ≡ cond partial (entry - 1) entry ⌝ }
-{
-    if partial {
-        if entry == 0 {
-            return 0;
-        }
-        return entry - 1;
-    }
-    entry
-}
-
-// The set number that is left for the areas after this one.
-fn number_after(partial: bool, number: u32) -> u32
-    ensures { λ r. ⌜ r ≡ cond partial (number / 2) number ⌝ }
-{
-    if partial {
-        return number / 2;
-    }
-    number
-}
-
-// What is read of the partial areas, one area a turn.
-fn gather(areas: [Holding; 32], count: usize) -> Partials
-    requires { ⌜ Bounded areas count ⌝ }
-    ensures { λ r. ⌜ Gathered (take count areas) r ⌝ }
-{
-    let mut sizes = [0u64; 32];
-    let mut weights = [0u64; 32];
-    let mut n: usize = 0;
-    let mut target = Weighted(0);
-    let mut i: usize = 0;
-    while i < count {
-        let a = areas[i];
-        let b = coverage::parts::blocks_of(a);
-        let size = b.size;
-        if 0 < size.0 {
-            sizes[n] = size.0;
-            weights[n] = a.weight as u64;
-            target = target.plus(b.value);
-            n += 1;
-        }
-        i += 1;
-    }
-    Partials {
-        count: n,
-        target,
-        sizes,
-        weights,
-    }
-}
-
-// What each area is given, one area a turn: the entry and the set number that the search found are used up from their first place.
-fn settle(
-    areas: [Holding; 32],
-    count: usize,
-    kind: u64,
-    share: Weighted,
-    entry: usize,
-    number: u32,
-) -> [AreaAnswer; 32]
-    requires { ⌜ Bounded areas count ⌝ }
-    ensures { λ r. ⌜ Settled (take count areas) kind (share .0) entry number r ⌝ }
-{
-    let mut given = [AreaAnswer::NONE; 32];
-    let mut e = entry;
-    let mut s = number;
-    let mut i: usize = 0;
-    while i < count {
-        let a = areas[i];
-        let b = coverage::parts::blocks_of(a);
-        let size = b.size;
-        let partial = 0 < size.0;
-        let gets = gets_at(partial, kind, share, e, s);
-        given[i] = AreaAnswer {
-            number: a.number,
-            blocks: b.whole,
-            gets,
-        };
-        e = entry_after(partial, e);
-        s = number_after(partial, s);
-        i += 1;
-    }
-    given
-}
-
-// The proposal for the areas of a map, each with its c.
-fn propose_from(areas: [Holding; 32], count: usize, draw: u32) -> Proposal
-    requires { ⌜ Bounded areas count ⌝ }
-    ensures { λ r. ⌜ Answers (proposal (take count areas) draw) r ⌝ }
-{
-    let partials = gather(areas, count);
-    let n = partials.count;
-    if 20 < n {
-        return refused(Outcome::TooMany);
-    }
-    let sizes = partials.sizes;
-    let weights = partials.weights;
-    let target = partials.target;
-    let found = search::propose(&sizes[..n], &weights[..n], target.0, draw);
-    let share = share_at(&sizes[..n], found.entry, found.white);
-    let outcome = Outcome::of_kind(found.kind);
-    let given = settle(areas, count, found.kind, share, found.entry, found.number);
-    Proposal {
-        outcome,
-        target,
-        white_space: Weighted(found.white),
-        tied: found.tied,
-        count,
-        areas: given,
-    }
-}
-
 // The proposal for a map and the licences in force, with a draw among tied areas.
 pub fn propose(map: &[u8], register: Register, draw: u32) -> Proposal
     ensures { λ r. ⌜ Answers (proposalOn (readMap (now (map .entry))) (inForce (register .places)) draw) r ⌝ }
@@ -281,7 +127,7 @@ pub fn propose(map: &[u8], register: Register, draw: u32) -> Proposal
         Checked::Refused(f) => refused(Outcome::Refused(f)),
         Checked::Accepted => {
             let areas = held.areas;
-            propose_from(areas, held.count, draw)
+            parts::propose_from(areas, held.count, draw)
         }
     }
 }

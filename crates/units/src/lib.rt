@@ -1,5 +1,6 @@
-// People and weighted MHz-pops: two units with names of their own (document 01, "Coverage and blocks"). Sums and tests take one
-// of them with itself, so no sum mixes them. The one bridge is People::weighted: people × weight × MHz are weighted MHz-pops.
+// People, cells and weighted MHz-pops: units with names of their own (document 01, "Coverage and blocks"; document 02, Paper 1). Sums and
+// tests take one of them with itself, so no sum mixes them. The one bridge is People::weighted: people × weight × MHz are weighted
+// MHz-pops.
 // Coordinates are plain i32, in hundredths of an arc second.
 ghost use mathlib.Core.Path.{_≡_};
 ghost use Prim.Native.Nat.{_+_, _*_};
@@ -9,6 +10,9 @@ ghost use Rattle.units.specs.Coordinates.{withinZ};
 
 // A count of people.
 pub struct People(pub u64);
+
+// A count of cells.
+pub struct Cells(pub u64);
 
 // An amount of weighted MHz-pops: MHz × weight × people.
 pub struct Weighted(pub u64);
@@ -31,11 +35,11 @@ fn product(a: u64, b: u64) -> u64
 }
 
 impl People {
-    // The people of a cell, counted so many times.
-    pub fn counted(people: u32, times: u32) -> Self
-        ensures { λ r. ⌜ r .0 ≡ people * times ⌝ }
+    // These people counted so many times, which stop at the largest u64.
+    pub fn times(self, times: u32) -> Self
+        ensures { λ r. ⌜ r .0 ≡ capped (times * self .0) ⌝ }
     {
-        People((people as u64) * (times as u64))
+        People(product(times as u64, self.0))
     }
 
     // The weighted MHz-pops of these people over so many MHz at a weight, which stop at the largest u64.
@@ -55,6 +59,21 @@ impl People {
         ensures { λ r. ⌜ r ≡ leb (self .0) (other .0) ⌝ }
     {
         self.0 <= other.0
+    }
+}
+
+impl Cells {
+    // These cells counted so many times, which stop at the largest u64.
+    pub fn times(self, times: u32) -> Self
+        ensures { λ r. ⌜ r .0 ≡ capped (times * self .0) ⌝ }
+    {
+        Cells(product(times as u64, self.0))
+    }
+
+    pub fn plus(self, other: Self) -> Self
+        ensures { λ r. ⌜ r .0 ≡ capped (self .0 + other .0) ⌝ }
+    {
+        Cells(sum(self.0, other.0))
     }
 }
 

@@ -73,8 +73,9 @@ pub fn heading() -> String {
 }
 
 /// The works, in the order of the table.
-const WORKS: [fn() -> Result<Row, Disagreement>; 15] = [
+const WORKS: [fn() -> Result<Row, Disagreement>; 17] = [
     || check_map("check of the largest map, 6,357,249 bytes", &holdings::largest(0)),
+    || coverage("coverage of one area, largest map, 64 boxes", &holdings::largest(LICENCES), 1),
     || propose("proposal, largest map, no box", &holdings::largest(0)),
     || propose("proposal, largest map, 1 box", &holdings::largest(1)),
     || propose("proposal, largest map, 7 boxes", &holdings::largest(7)),
@@ -83,6 +84,7 @@ const WORKS: [fn() -> Result<Row, Disagreement>; 15] = [
     || propose("proposal, largest map, 64 boxes", &holdings::largest(LICENCES)),
     || propose("proposal, as large, 64 boxes that cut every row", &holdings::largest_cut()),
     twenty_partial,
+    || footprint("footprint, largest map, 2 rings and a last one", &holdings::few_rings()),
     || footprint("footprint, growing by 193 rings and a last one", &holdings::growing()),
     || footprint("footprint, a snake, 3,115 rings and a last one", &holdings::snake()),
     || footprint("footprint, shrinking by 63 rings and a last one", &holdings::shrinking()),
@@ -103,6 +105,14 @@ fn twenty_partial() -> Result<Row, Disagreement> {
 
 fn check_map(work: &'static str, on: &Holdings) -> Result<Row, Disagreement> {
     compare(work, || timed(|| raw::check_map(black_box(&on.map))), || timed(|| plain::check_map(black_box(&on.map))))
+}
+
+fn coverage(work: &'static str, on: &Holdings, number: u16) -> Result<Row, Disagreement> {
+    compare(
+        work,
+        || timed(|| raw::coverage(black_box(&on.map), on.register, number)),
+        || timed(|| plain::coverage(black_box(&on.map), on.register, number)),
+    )
 }
 
 fn propose(work: &'static str, on: &Holdings) -> Result<Row, Disagreement> {
@@ -225,7 +235,7 @@ fn compare<T: PartialEq>(
 #[cfg(test)]
 mod tests {
     use super::*;
-    use codwalet::limits::SIDE;
+    use codwalet::limits::{AREAS, SIDE};
 
     #[test]
     fn the_largest_map_is_as_long_as_its_row_says() {
@@ -242,6 +252,7 @@ mod tests {
     #[test]
     fn the_slacks_are_as_counted_by_hand() {
         let slacks = [
+            (holdings::few_rings(), 1_600),
             (holdings::growing(), 45),
             (holdings::snake(), 1),
             (holdings::shrinking(), 11_810),
@@ -254,11 +265,36 @@ mod tests {
     }
 
     /// The mask of a footprint by the plain version.
-    fn mask_of(on: &Holdings) -> Vec<u8> {
+    fn mask_of(on: &Holdings, area: u32) -> Vec<u8> {
         let mut mask = vec![0; MASK];
         let outline = plain::footprint(&on.map, on.register, 0, &mut mask, &mut vec![0; ENTRIES]);
-        assert_eq!(outline, Outline { area: 1, ..Outline::default() });
+        assert_eq!(outline, Outline { area, ..Outline::default() });
         mask
+    }
+
+    /// How many cells of a footprint are in so many rows and columns around the middle of the largest area.
+    fn cells_in_middle(mask: &[u8], side: usize) -> usize {
+        let middle = (SIDE - side) / 2..(SIDE + side) / 2;
+        let places = middle.clone().flat_map(|row| middle.clone().map(move |column| row * SIDE + column));
+        places.filter(|&place| mask[place] == 1).count()
+    }
+
+    #[test]
+    fn two_rings_of_the_largest_map_leave_and_a_third_in_part() {
+        let mask = mask_of(&holdings::few_rings(), AREAS as u32);
+        // Of 16 x 16 cells the rings leave 12 x 12; of the last ring, around 10 x 10, 16 cells are left out.
+        assert_eq!([128, 12, 10].map(|side| cells_in_middle(&mask, side)), [128, 128, 100]);
+    }
+
+    /// The first area has 8 boxes, each within the one before. By hand: from row and column 8n and 4n to before
+    /// 128 - 8n, for n up to 7.
+    #[test]
+    fn coverage_is_of_the_area_and_the_boxes_named() {
+        let on = holdings::largest(LICENCES);
+        let cells: usize = (0..8).map(|n| (SIDE - 16 * n) * (SIDE - 12 * n)).sum();
+        let covered = plain::coverage(&on.map, on.register, 1);
+        assert_eq!((covered.cells, covered.refusal), (cells as u64, 0));
+        assert_eq!(plain::coverage(&on.map, on.register, 9).cells, 0);
     }
 
     #[test]
@@ -268,7 +304,7 @@ mod tests {
         let shrinking = |row: usize, column: usize| {
             1 + [row, column].map(|at| at.min(SIDE - 1 - at)).into_iter().min().unwrap_or(0)
         };
-        let (grown, shrunk) = (mask_of(&holdings::growing()), mask_of(&holdings::shrinking()));
+        let (grown, shrunk) = (mask_of(&holdings::growing(), 1), mask_of(&holdings::shrinking(), 1));
         for (row, column) in (0..SIDE).flat_map(|row| (0..SIDE).map(move |column| (row, column))) {
             let place = row * SIDE + column;
             match growing(row, column) {
@@ -281,7 +317,7 @@ mod tests {
             }
         }
         // Each ring of the snake is one cell; the first cell and that of the last ring are in the footprint too.
-        let cells = mask_of(&holdings::snake()).iter().filter(|&&byte| byte == 1).count();
+        let cells = mask_of(&holdings::snake(), 1).iter().filter(|&&byte| byte == 1).count();
         assert_eq!(cells, 1 + 3_115 + 1);
     }
 }

@@ -2,6 +2,7 @@
 //! `stdin` and `stdout`. The lines come from the independent implementation of document 01.
 
 mod areas;
+mod cells;
 mod encoding;
 mod expected;
 mod footprints;
@@ -73,6 +74,7 @@ impl Cases {
         proposals::add(&mut cases, &mut random);
         footprints::add(&mut cases, &mut random);
         lists::add(&mut cases, &mut random);
+        cells::add(&mut cases);
         cases
     }
 

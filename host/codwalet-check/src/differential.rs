@@ -10,6 +10,7 @@ mod kinds;
 mod run;
 mod seen;
 mod shrink;
+mod sorts;
 #[cfg(test)]
 mod tests;
 

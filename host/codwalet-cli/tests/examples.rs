@@ -90,6 +90,19 @@ fn names_of_json_fields_are_explained() {
     }
 }
 
+/// In the row of its call stands each field that an answer of the examples has, beside `line` and `call`.
+#[test]
+fn fields_of_a_call_are_in_its_row() {
+    let answers: String = plans().iter().map(|plan| expected(&format!("{plan}.json"))).collect();
+    for answer in answers.lines().filter(|answer| !answer.contains("\"refusal\":")) {
+        let call = answer.split('"').nth(5).expect("the call follows the line");
+        let row = PLANS.lines().find(|line| line.starts_with(&format!("| {call} |"))).expect("the call has a row");
+        for name in names(answer).filter(|name| !["line", "call"].contains(name)) {
+            assert!(row.contains(&format!("`{name}`")), "docs/PLANS.md lacks `{name}` in the row of {call}");
+        }
+    }
+}
+
 #[test]
 fn values_of_json_fields_are_explained() {
     let kinds = [Kind::Exact, Kind::RoundedUp, Kind::OnePart].map(Kind::words);

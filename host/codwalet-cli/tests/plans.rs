@@ -1,7 +1,8 @@
-//! Plans that run: how words are written, what is noted, and where pictures may go.
+//! Plans that run: how words are written, what is noted, what is counted, and where pictures may go.
 
 mod common;
 
+use codwalet_cli::csv::HEADER;
 use common::{CSV, Ended, codwalet, codwalet_reading, command, ended, files_in, folder_with};
 use std::ffi::OsStr;
 use std::fs::{self, File};
@@ -285,8 +286,79 @@ fn long_calls_move_their_own_answers_alone() {
     let zeros = "0".repeat(70_000);
     let ended = run("long", &format!("map good.csv\ncoverage {zeros}7\ncoverage 7\n"));
     assert_eq!(ended.said(), (Some(0), ""));
-    assert_eq!(answer(&ended, 2), format!("coverage {zeros}7  0 people"));
-    assert_eq!(answer(&ended, 3), format!("{:60}  0 people", "coverage 7"));
+    assert_eq!(answer(&ended, 2), format!("coverage {zeros}7  0 people, 0 cells"));
+    assert_eq!(answer(&ended, 3), format!("{:60}  0 people, 0 cells", "coverage 7"));
+}
+
+/// Runs a plan on a map with some lines.
+fn run_over(lines: &str, name: &str, plan: &str, words: &[&str]) -> Ended {
+    let folder = folder(name, &format!("map cells.csv\n{plan}"));
+    fs::write(folder.join("cells.csv"), format!("{HEADER}\n{lines}")).expect("the map is written");
+    let ended = codwalet(&folder, &[&["run", "it.plan"], words].concat());
+    assert_eq!(ended.said(), (Some(0), ""));
+    ended
+}
+
+/// A cell with a person and, behind a gap, one without people.
+const SPARSE: &str = "7,1,0,0,1,39.5N,100W\n7,1,0,2,0,39.5N,99.96W\n";
+
+/// A box over the first cell, then a licence for both.
+const COVERED: &str = "\
+coverage 7
+grant 1 box 39.4N 39.6N 100W 99.98W
+coverage 7
+grant 2 area 7
+coverage 7
+coverage 8
+propose 0
+";
+
+#[test]
+fn coverage_is_people_and_cells() {
+    let ended = run_over(SPARSE, "covered", COVERED, &[]);
+    let lacking = "0 people, 0 cells (the map lacks the area)";
+    for (line, words) in [(2, "0 people, 0 cells"), (4, "1 person, 1 cell"), (6, "2 people, 3 cells"), (7, lacking)] {
+        let answer = answer(&ended, line);
+        assert!(answer.starts_with("coverage ") && answer.ends_with(&format!("  {words}")), "{answer}");
+    }
+}
+
+/// The lines of a proposal's areas below their heading.
+fn given(ended: &Ended) -> Vec<&str> {
+    let mut lines = ended.out.lines().skip_while(|line| !line.starts_with("      area  "));
+    assert_eq!(lines.next(), Some("      area  whole blocks      cells  gets"));
+    lines.take_while(|line| !line.is_empty()).collect()
+}
+
+#[test]
+fn a_proposal_has_the_cells_of_each_area() {
+    let empty = "212,1,0,0,5,0.0,0.0\n";
+    let ended = run_over(&format!("{SPARSE}{empty}"), "cells", COVERED, &[]);
+    let due = ["         7             1          3  nothing", "       212             0          0  nothing"];
+    assert_eq!(given(&ended), due);
+}
+
+#[test]
+fn the_most_cells_fit_their_column() {
+    let cell = |place: usize| format!("7,1,{},{},1,0.0,0.0\n", place / 128, place % 128);
+    let grants: String = (1..=64).map(|call_sign| format!("grant {call_sign} area 7\n")).collect();
+    let cells: String = (0..128 * 128).map(cell).collect();
+    let ended = run_over(&cells, "most", &format!("{grants}propose 0\n"), &[]);
+    assert_eq!(given(&ended), ["         7            32  1,048,576  nothing"]);
+}
+
+#[test]
+fn programs_are_told_the_cells() {
+    let json = run_over(SPARSE, "covered-json", COVERED, &["--json"]).out;
+    for answer in [
+        r#"{"line":4,"call":"coverage","area":7,"people":1,"cells":1,"in_map":true}"#,
+        r#"{"line":6,"call":"coverage","area":7,"people":2,"cells":3,"in_map":true}"#,
+        r#"{"line":7,"call":"coverage","area":8,"people":0,"cells":0,"in_map":false}"#,
+    ] {
+        assert!(json.lines().any(|line| line == answer), "{json}");
+    }
+    let areas = r#""areas":[{"area":7,"whole_blocks":1,"cells":3,"gets":"nothing"}]}"#;
+    assert!(json.trim_end().ends_with(areas), "{json}");
 }
 
 #[test]

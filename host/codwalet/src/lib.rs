@@ -12,6 +12,7 @@
 //! // A licence of 50 MHz for all of the area is half a block: one part, which the first cell carries.
 //! let register = Register::empty().grant(Licence::area(101, 7))?;
 //! let proposal = map.propose(&register, 0)?;
+//! assert_eq!(proposal.areas[0].cells, 2);
 //! assert_eq!(proposal.share().map(|share| share.to_string()).as_deref(), Some("5,000 weighted MHz-pops"));
 //! let footprint = map.footprint(&register, 0)?;
 //! assert!(footprint.contains(0, 0) && !footprint.contains(0, 1));

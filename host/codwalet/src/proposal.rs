@@ -3,17 +3,19 @@
 use crate::{People, Weighted, raw};
 use std::fmt;
 
-/// What licences in force cover in an area.
+/// What licences in force cover in an area. A cell under two licences counts twice, with its people.
 #[derive(Clone, Copy, Debug, Default, PartialEq, Eq)]
 #[non_exhaustive]
 pub struct Coverage {
-    /// c: the people in covered cells. A cell under two licences counts twice.
+    /// c: the people in covered cells.
     pub people: People,
+    /// Covered cells, those without people too.
+    pub cells: u64,
 }
 
 impl Coverage {
     pub(crate) fn from_raw(covered: &raw::Covered) -> Coverage {
-        Coverage { people: People(covered.people) }
+        Coverage { people: People(covered.people), cells: covered.cells }
     }
 }
 
@@ -146,6 +148,9 @@ pub struct Given {
     pub blocks: u64,
     /// What the area gets.
     pub gets: Gets,
+    /// Cells that licences in force cover in the area, as [`Coverage::cells`]. A site survey is priced by them; the proposal
+    /// itself reads people only.
+    pub cells: u64,
 }
 
 impl Given {
@@ -157,7 +162,7 @@ impl Given {
             raw::GETS_SHARE => Gets::Share(Weighted(given.share)),
             other => unreachable!("the engine answered that an area gets {other}"),
         };
-        Given { number: area_number(given.number), blocks: given.blocks, gets }
+        Given { number: area_number(given.number), blocks: given.blocks, gets, cells: given.cells }
     }
 }
 

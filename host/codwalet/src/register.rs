@@ -65,15 +65,16 @@ impl Register {
         self.licences().find(|licence| licence.call_sign() == call_sign)
     }
 
-    /// The register as bytes, to be kept: those of the C struct. They belong to version [`raw::VERSION`] of the interface.
+    /// The register as bytes, to be kept: those of the C struct. They belong to version [`raw::VERSION`] of the interface; in
+    /// version 1 they were the same.
     pub fn to_bytes(&self) -> [u8; Register::BYTES] {
         // SAFETY: the struct is numbers without padding, as the assertion below says.
         unsafe { std::mem::transmute(self.0) }
     }
 
-    /// The register in bytes that were kept. Any bytes are taken, and what is in force in them counts as the engine counts it: a
-    /// place with call sign 0 is free, a ground of no kind covers nothing, and a box covers what lies between its edges, even
-    /// where no grant would accept them.
+    /// The register in bytes that were kept, in this version of the interface or in version 1. Any bytes are taken, and what is
+    /// in force in them counts as the engine counts it: a place with call sign 0 is free, a ground of no kind covers nothing, and
+    /// a box covers what lies between its edges, even where no grant would accept them.
     ///
     /// # Panics
     ///

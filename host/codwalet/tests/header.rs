@@ -9,6 +9,7 @@ mod tokens;
 
 use codwalet::raw;
 use header::{Item, Unread};
+use std::mem::offset_of;
 
 const HEADER: &str = include_str!("../../include/codwalet.h");
 
@@ -114,6 +115,18 @@ fn structs_are_as_large_as_the_header_says() {
         let said = format!(" {} bytes", codwalet::grouped(size as u64));
         assert!(name == named && doc.contains(&said), "{name}: {doc}");
     }
+}
+
+/// Where version 2 has cells. A layout that is another one needs another version.
+#[test]
+fn cells_stand_where_version_2_has_them() {
+    assert_eq!(raw::VERSION, 2);
+    let covered =
+        [offset_of!(raw::Covered, people), offset_of!(raw::Covered, cells), offset_of!(raw::Covered, refusal)];
+    assert_eq!((covered, size_of::<raw::Covered>()), ([0, 8, 16], 24));
+    let given = [offset_of!(raw::Given, blocks), offset_of!(raw::Given, share), offset_of!(raw::Given, cells)];
+    assert_eq!((given, size_of::<raw::Given>()), ([8, 16, 24], 32));
+    assert_eq!((offset_of!(raw::Proposal, areas), size_of::<raw::Proposal>()), (40, 1_064));
 }
 
 #[test]

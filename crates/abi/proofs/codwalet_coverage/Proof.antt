@@ -15,19 +15,21 @@ enum-known-f c = search needs
 number-requires : tie.Need-number-requires
 number-requires c κs = search needs
 
-enum-known-people : tie.Need-enum-known-people
-enum-known-people c = search needs
+enum-known-sums : tie.Need-enum-known-sums
+enum-known-sums c = search needs
 
 returns : tie.Need-returns
 returns c =
     let c2 = c .before .before in
-    (λ i. record { people = 0; refusal = c .number .ensures i; unused = 0 })
+    (λ i. record { people = 0; cells = 0; refusal = c .number .ensures i; unused = 0 })
     ∙ ap flatCovered (sym (ap coverageMeans (c2 .f .given .1)) ∙ c2 .before .before .coverage .ensures)
 
 returns-2 : tie.Need-returns-2
-returns-2 c = ap flatCovered (sym (ap coverageMeans (c .before .people .given .1)) ∙ c .before .before .before .coverage .ensures)
+returns-2 c =
+    let c3 = c .before .before .before in
+    ap flatCovered (sym (ap coverageMeans (c3 .sums .given .1)) ∙ c3 .before .before .coverage .ensures)
 
 pub codwalet-coverage-spec : {M : Type 1} → statement M
 codwalet-coverage-spec =
     tie.close
-    (tie.spec coverage-requires enum-known-f number-requires enum-known-people returns returns-2)
+    (tie.spec coverage-requires enum-known-f number-requires enum-known-sums returns returns-2)

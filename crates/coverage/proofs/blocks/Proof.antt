@@ -1,22 +1,42 @@
--- `coverage::blocks` meets its contract: by what the look-up says. Assumes nothing.
-use mathlib.Core.Path.{sym, ap, _∙_}
+-- `coverage::blocks` meets its contract: by what is found of the area under the boxes. Assumes nothing.
+use Prim.Native.Nat.{ℕ, _*_, _≤_}
+use mathlib.Core.Path.{_≡_, refl, sym, ap, _∙_, subst}
+use native.Mathlib.Omega.{arith}
 use denote.Ref.{now}
 use borrow.Author.Needs.{needs}
+use lib.ListN.{take}
 use Rattle.map.specs.Format.{Area, readMap}
-use Rattle.map.specs.Answers.{foundMeans}
-use Rattle.map.proofs.Accepted.{LookedUpIn, looked-up}
+use Rattle.map.specs.declared.parts.CountedArea.{CountedArea}
+use Rattle.map.specs.Answers.{countedArea, soughtMeans}
+use Rattle.map.proofs.Accepted.{sought-up}
 use Rattle.register.specs.Licences.{inForce}
 use Rattle.coverage.specs.declared.AreaBlocks.{AreaBlocks}
 use Rattle.coverage.specs.Cover.{holdingOf}
 use Rattle.coverage.specs.Blocks.{blocksOf}
 use Rattle.coverage.specs.Answers.{answers, noBlocks, blocksAt}
-use Rattle.coverage.proofs.BlockLaws.{blocks-exact}
-use Rattle.coverage.proofs.LookLaws.{made-refused, made-lacking, made-of, rows-within, area-holding, area-limits}
+use Rattle.coverage.specs.Limits.{Limits, namingOf, holdingBy}
+use Rattle.coverage.proofs.BlockLaws.{limits-of, blocks-exact}
+use Rattle.coverage.proofs.CoverLaws.{edges-size, holding-handed}
+use Rattle.coverage.proofs.LookLaws.{made-refused, made-lacking, made-of}
 use Rattle.coverage.proofs.blocks.Statement.{statement}
 use Rattle.coverage.proofs.blocks.Tie as tie
 
-look-up-requires : tie.Need-look-up-requires
-look-up-requires c κs = search needs
+boxes-requires : tie.Need-boxes-requires
+boxes-requires c κs = search needs
+
+mul-end : tie.Need-mul-end
+mul-end c = search needs
+
+array-share-prefix-edges : tie.Need-array-share-prefix-edges
+array-share-prefix-edges c = search needs
+
+slice-aggregate-find : tie.Need-slice-aggregate-find
+slice-aggregate-find c = sym (edges-size (c .before .before .before .boxes .ensures))
+
+find-requires : tie.Need-find-requires
+find-requires c κs =
+    let d = c .before .before .before .boxes .ensures in
+    omega (arith, edges-size d, d .counts .few)
 
 enum-known-f : tie.Need-enum-known-f
 enum-known-f c = search needs
@@ -27,24 +47,8 @@ enum-told c = search needs
 enum-known-a : tie.Need-enum-known-a
 enum-known-a c = search needs
 
-boxes-requires : tie.Need-boxes-requires
-boxes-requires c κs = search needs
-
--- the area that was found stands in the map
-found : (c : tie.After-boxes) →
-    let start = c .before .before .before .before .before .before in
-    LookedUpIn (now (start .args .map)) (start .args .number) (c .before .before .a .given .0 .0)
-found c =
-    let c4 = c .before .before .before .before in
-    let start = c4 .before .before in
-    looked-up (now (start .args .map)) (start .args .number) (c .before .before .a .given .0 .0)
-    (sym (ap foundMeans (c .before .before .a .given .1)) ∙ c4 .look-up .ensures)
-
-holding-in-requires : tie.Need-holding-in-requires
-holding-in-requires c κs =
-    let st = found c .stands in
-    let w = rows-within (st .holds) (st .handed) in
-    (w .0, w .1, c .boxes .ensures)
+holding-of-requires : tie.Need-holding-of-requires
+holding-of-requires c κs = search needs
 
 blocks-of-requires : tie.Need-blocks-of-requires
 blocks-of-requires c κs = search needs
@@ -53,43 +57,55 @@ returns : tie.Need-returns
 unfolding blocksAt
 returns c =
     let c3 = c .before .before .before in
-    let a = c3 .before .before .args in
+    let c7 = c3 .before .before .before .before in
+    let a = c7 .before .before .args in
+    let b = c7 .boxes .result in
     let made : Area → AreaBlocks = λ x. blocksOf (holdingOf (inForce (a .register .places)) x) in
-    made-refused (a .number) noBlocks made (readMap (now (a .map)))
-    (sym (ap foundMeans (c .before .f .given .1)) ∙ c3 .look-up .ensures)
+    made-refused (a .number) noBlocks made (countedArea (take (4 * b .count) (b .edges))) (readMap (now (a .map)))
+    (sym (ap soughtMeans (c .before .f .given .1)) ∙ c3 .find .ensures)
 
 returns-2 : tie.Need-returns-2
 unfolding blocksAt
 returns-2 c =
-    let a = c .before .before .before .before .args in
+    let c2 = c .before .before in
+    let c6 = c2 .before .before .before .before in
+    let a = c6 .before .before .args in
+    let b = c6 .boxes .result in
     let made : Area → AreaBlocks = λ x. blocksOf (holdingOf (inForce (a .register .places)) x) in
-    made-lacking (a .number) noBlocks made (readMap (now (a .map)))
-    (sym (ap foundMeans (c .enum-told .given .1)) ∙ c .before .before .look-up .ensures)
+    made-lacking (a .number) noBlocks made (countedArea (take (4 * b .count) (b .edges))) (readMap (now (a .map)))
+    (sym (ap soughtMeans (c .enum-told .given .1)) ∙ c2 .find .ensures)
 
 returns-3 : tie.Need-returns-3
 unfolding blocksAt
 returns-3 c =
-    let start = c .before .before .before .before .before .before .before .before in
-    let a = start .args in
+    let c3 = c .before .before .before in
+    let c5 = c3 .before .before in
+    let c9 = c5 .before .before .before .before in
+    let a = c9 .before .before .args in
+    let b = c9 .boxes .result in
     let ls = inForce (a .register .places) in
-    let l = found (c .before .before) in
-    let st = l .stands in
+    let edges = take (4 * b .count) (b .edges) in
     let made : Area → AreaBlocks = λ x. blocksOf (holdingOf ls x) in
-    let within = area-limits (st .holds) (st .handed) ls (c .before .holding-in .ensures) in
-    ap answers (blocks-exact within (c .blocks-of .ensures)
-    ∙ ap blocksOf (c .before .holding-in .ensures ∙ area-holding (st .holds) (st .handed) ls))
-    ∙ made-of (a .number) noBlocks made l
+    let g = c3 .a .given in
+    let l = sought-up (countedArea edges) (now (a .map)) (a .number) (g .0 .0) (sym (ap soughtMeans (g .1)) ∙ c5 .find .ensures) in
+    let st = l .stands in
+    let is = holding-handed (c9 .boxes .ensures) (st .holds) (st .handed) (c .before .holding-of .ensures) in
+    ap answers (blocks-exact (subst Limits (sym is) (limits-of ls (st .area) (st .holds))) (c .blocks-of .ensures) ∙ ap blocksOf is)
+    ∙ made-of (a .number) noBlocks made (countedArea edges) l
 
 pub blocks-spec : {M : Type 1} → statement M
 blocks-spec =
     tie.close
     (tie.spec
-    look-up-requires
+    boxes-requires
+    mul-end
+    array-share-prefix-edges
+    slice-aggregate-find
+    find-requires
     enum-known-f
     enum-told
     enum-known-a
-    boxes-requires
-    holding-in-requires
+    holding-of-requires
     blocks-of-requires
     returns
     returns-2

@@ -1,19 +1,39 @@
--- `coverage::coverage` meets its contract: by what the look-up says. Assumes nothing.
-use mathlib.Core.Path.{sym, ap, _∙_}
+-- `coverage::coverage` meets its contract: by what is found of the area under the boxes. Assumes nothing.
+use Prim.Native.Nat.{ℕ, _*_}
+use mathlib.Core.Path.{sym, ap, _∙_, subst}
+use native.Mathlib.Omega.{arith}
 use denote.Ref.{now}
 use borrow.Author.Needs.{needs}
+use lib.ListN.{take}
 use Rattle.map.specs.Format.{readMap}
-use Rattle.map.specs.Answers.{foundMeans}
-use Rattle.map.proofs.Accepted.{LookedUpIn, looked-up}
+use Rattle.map.specs.declared.parts.CountedArea.{CountedArea}
+use Rattle.map.specs.Answers.{countedArea, soughtMeans}
+use Rattle.map.proofs.Accepted.{sought-up}
 use Rattle.register.specs.Licences.{inForce}
-use Rattle.coverage.specs.Cover as cover
-use Rattle.coverage.specs.Answers.{answers, coverageAt}
-use Rattle.coverage.proofs.LookLaws.{made-refused, made-lacking, made-of, rows-within, area-covered}
+use Rattle.coverage.specs.Cover.{coverageSums}
+use Rattle.coverage.specs.Limits.{namingOf, sumsBy}
+use Rattle.coverage.specs.Answers.{answers, noSums, coverageAt}
+use Rattle.coverage.proofs.CoverLaws.{edges-size, sums-are}
+use Rattle.coverage.proofs.LookLaws.{made-refused, made-lacking, made-of}
 use Rattle.coverage.proofs.coverage.Statement.{statement}
 use Rattle.coverage.proofs.coverage.Tie as tie
 
-look-up-requires : tie.Need-look-up-requires
-look-up-requires c κs = search needs
+boxes-requires : tie.Need-boxes-requires
+boxes-requires c κs = search needs
+
+mul-end : tie.Need-mul-end
+mul-end c = search needs
+
+array-share-prefix-edges : tie.Need-array-share-prefix-edges
+array-share-prefix-edges c = search needs
+
+slice-aggregate-find : tie.Need-slice-aggregate-find
+slice-aggregate-find c = sym (edges-size (c .before .before .before .boxes .ensures))
+
+find-requires : tie.Need-find-requires
+find-requires c κs =
+    let d = c .before .before .before .boxes .ensures in
+    omega (arith, edges-size d, d .counts .few)
 
 enum-known-f : tie.Need-enum-known-f
 enum-known-f c = search needs
@@ -24,61 +44,65 @@ enum-told c = search needs
 enum-known-a : tie.Need-enum-known-a
 enum-known-a c = search needs
 
-boxes-requires : tie.Need-boxes-requires
-boxes-requires c κs = search needs
+naming-requires : tie.Need-naming-requires
+naming-requires c κs = search needs
 
--- the area that was found stands in the map
-found : (c : tie.After-boxes) →
-    let start = c .before .before .before .before .before .before in
-    LookedUpIn (now (start .args .map)) (start .args .number) (c .before .before .a .given .0 .0)
-found c =
-    let c4 = c .before .before .before .before in
-    let start = c4 .before .before in
-    looked-up (now (start .args .map)) (start .args .number) (c .before .before .a .given .0 .0)
-    (sym (ap foundMeans (c .before .before .a .given .1)) ∙ c4 .look-up .ensures)
-
-covered-in-requires : tie.Need-covered-in-requires
-covered-in-requires c κs =
-    let st = found c .stands in
-    let w = rows-within (st .holds) (st .handed) in
-    (w .0, w .1, c .boxes .ensures)
+sums-of-requires : tie.Need-sums-of-requires
+sums-of-requires c κs = search needs
 
 returns : tie.Need-returns
 unfolding coverageAt
 returns c =
     let c3 = c .before .before .before in
-    let a = c3 .before .before .args in
-    made-refused (a .number) 0 (cover.coverage (inForce (a .register .places))) (readMap (now (a .map)))
-    (sym (ap foundMeans (c .before .f .given .1)) ∙ c3 .look-up .ensures)
+    let c7 = c3 .before .before .before .before in
+    let a = c7 .before .before .args in
+    let b = c7 .boxes .result in
+    made-refused (a .number) noSums (coverageSums (inForce (a .register .places))) (countedArea (take (4 * b .count) (b .edges)))
+    (readMap (now (a .map))) (sym (ap soughtMeans (c .before .f .given .1)) ∙ c3 .find .ensures)
 
 returns-2 : tie.Need-returns-2
 unfolding coverageAt
 returns-2 c =
-    let a = c .before .before .before .before .args in
-    made-lacking (a .number) 0 (cover.coverage (inForce (a .register .places))) (readMap (now (a .map)))
-    (sym (ap foundMeans (c .enum-told .given .1)) ∙ c .before .before .look-up .ensures)
+    let c2 = c .before .before in
+    let c6 = c2 .before .before .before .before in
+    let a = c6 .before .before .args in
+    let b = c6 .boxes .result in
+    made-lacking (a .number) noSums (coverageSums (inForce (a .register .places))) (countedArea (take (4 * b .count) (b .edges)))
+    (readMap (now (a .map))) (sym (ap soughtMeans (c .enum-told .given .1)) ∙ c2 .find .ensures)
 
 returns-3 : tie.Need-returns-3
 unfolding coverageAt
 returns-3 c =
-    let start = c .before .before .before .before .before .before .before in
-    let a = start .args in
+    let c4 = c .before .before .before .before in
+    let c6 = c4 .before .before in
+    let c10 = c6 .before .before .before .before in
+    let a = c10 .before .before .args in
+    let b = c10 .boxes .result in
     let ls = inForce (a .register .places) in
-    let l = found (c .before) in
+    let edges = take (4 * b .count) (b .edges) in
+    let g = c4 .a .given in
+    let l = sought-up (countedArea edges) (now (a .map)) (a .number) (g .0 .0) (sym (ap soughtMeans (g .1)) ∙ c6 .find .ensures) in
     let st = l .stands in
-    ap answers (c .covered-in .ensures ∙ area-covered (st .holds) (st .handed) ls)
-    ∙ made-of (a .number) 0 (cover.coverage ls) l
+    let named = c .before .naming .ensures .0 ∙ ap (namingOf ls) (sym (st .numbered)) in
+    ap answers (c .sums-of .ensures
+    ∙ ap (λ (x : CountedArea). sumsBy (c .before .naming .result) (x .counts)) (st .handed)
+    ∙ sums-are (c10 .boxes .ensures) (st .holds) named (c .before .naming .ensures .1))
+    ∙ made-of (a .number) noSums (coverageSums ls) (countedArea edges) l
 
 pub coverage-spec : {M : Type 1} → statement M
 coverage-spec =
     tie.close
     (tie.spec
-    look-up-requires
+    boxes-requires
+    mul-end
+    array-share-prefix-edges
+    slice-aggregate-find
+    find-requires
     enum-known-f
     enum-told
     enum-known-a
-    boxes-requires
-    covered-in-requires
+    naming-requires
+    sums-of-requires
     returns
     returns-2
     returns-3)

@@ -22,7 +22,7 @@ use Rattle.footprint.proofs.outline.Tie as tie
 mul-if1 : tie.Need-mul-if1
 mul-if1 c =
     let p = c .before .before .before .before .pre in
-    record { fits = omega (arith, mul-le-mul (p .0) (p .1)) }
+    record { fits = omega (arith, mul-le-mul (p .rows) (p .columns)) }
 
 returns : tie.Need-returns
 returns c =
@@ -59,7 +59,21 @@ slice-aggregate-lay-out-3 : tie.Need-slice-aggregate-lay-out-3
 slice-aggregate-lay-out-3 c = search needs
 
 lay-out-requires : tie.Need-lay-out-requires
-lay-out-requires c κs = search needs
+lay-out-requires c κs =
+    let c6 = c .before .before .before .before .before .before in
+    let c8 = c6 .before .before in
+    let p = c8 .before .before .before .before .before .pre in
+    let few = mul-le-mul (p .rows) (p .columns) in
+    let boxes = c6 .boxes .ensures in (
+      p .reads,
+      omega (arith, p .columns),
+      omega (arith, p .rows),
+      c6 .before .naming .ensures .1,
+      omega (arith, edges-size boxes, boxes .counts .few),
+      omega (arith, few, length-replicate {A = ℕ} 16384 0),
+      omega (arith, few, length-replicate {A = ℕ} 16384 0),
+      c8 .if1 .left,
+    )
 
 slice-aggregate-make : tie.Need-slice-aggregate-make
 slice-aggregate-make c = search needs
@@ -97,8 +111,6 @@ outlined c =
     record {
       always = c17 .naming .result;
       edges = take (4 * boxes .result .count) (boxes .result .edges);
-      often = c17 .naming .ensures .1;
-      boxed = omega (arith, edges-size (boxes .ensures), boxes .ensures .counts .few);
       over = covered-some (boxes .ensures) (start c .args .a .number) (c17 .naming .ensures .0);
       before = record { people = replicate 16384 0; cells = replicate 16384 0; mask = now (start c .args .mask) };
       after = record {

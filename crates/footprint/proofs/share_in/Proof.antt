@@ -1,4 +1,4 @@
--- `footprint::share_in`: the first area that gets a share is the only one. Assumes nothing.
+-- `footprint::share_in`: the place of the first area that gets a share. Assumes nothing.
 use Prim.Native.Nat.{_-_, _<_}
 use mathlib.Core.Path.{_≡_, refl}
 use lib.ListN.{length}
@@ -37,8 +37,8 @@ returns : tie.Need-returns Inv-loop μ-loop
 returns c =
     let c5 = c .before .before .before .before .before in
     let size = entries (c5 .before) in
-    look-finds (c5 .loop .inv) blank (omega (arith, c .before .before .before .before .loop-test .taken))
-    (c .before .gets .given .0 .0) (c .before .gets .given .1)
+    let below = c .before .before .before .before .loop-test .taken in
+    (look-finds (c5 .loop .inv) blank (omega arith) (c .before .gets .given .0 .0) (c .before .gets .given .1), below)
 
 enum-told : tie.Need-enum-told Inv-loop μ-loop
 enum-told c = search needs
@@ -61,16 +61,16 @@ loop-again c =
     let size = entries (c3 .before) in
     let inside : c3 .loop .i < length (c3 .before .args .t1) = omega (arith, c .before .before .loop-test .taken) in
     ⊎-elim
-    (λ w. look-turns (c3 .loop .inv) blank inside gets.Nothing (w .1 .given .1) (λ n later. refl))
+    (λ w. look-turns (c3 .loop .inv) blank inside gets.Nothing (w .1 .given .1) (λ later. refl))
     (⊎-elim
-    (λ w. look-turns (c3 .loop .inv) blank inside gets.Whole (w .1 .given .1) (λ n later. refl))
-    (λ w. look-turns (c3 .loop .inv) blank inside gets.RoundedUp (w .1 .given .1) (λ n later. refl)))
+    (λ w. look-turns (c3 .loop .inv) blank inside gets.Whole (w .1 .given .1) (λ later. refl))
+    (λ w. look-turns (c3 .loop .inv) blank inside gets.RoundedUp (w .1 .given .1) (λ later. refl)))
     (c .match .came)
 
 returns-2 : tie.Need-returns-2 Inv-loop μ-loop
 returns-2 c =
     let size = entries (c .before .before) in
-    look-ends (c .before .loop .inv) (omega (arith, c .loop-test .left))
+    (look-ends (c .before .loop .inv) (omega (arith, c .loop-test .left)), tt)
 
 pub share-in-spec : {M : Type 1} → statement M
 share-in-spec =

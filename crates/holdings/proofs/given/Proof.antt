@@ -5,10 +5,10 @@ use Rattle.holdings.proofs.given.Statement.{statement}
 use Rattle.holdings.proofs.given.Tie as tie
 
 abbrev Inv-loop : tie.InvT-loop
-Inv-loop count areas i₀ t8 t9 t10 t11 t12 t13 i = i ≤ 32
+Inv-loop count areas i₀ t9 t10 t11 t12 t13 t14 t15 i = i ≤ 32
 
 abbrev μ-loop : tie.MeasureT-loop
-μ-loop count areas i₀ t8 t9 t10 t11 t12 t13 i = 32 - i
+μ-loop count areas i₀ t9 t10 t11 t12 t13 t14 t15 i = 32 - i
 
 loop-holds : tie.Need-loop-holds Inv-loop μ-loop
 loop-holds c = search needs
@@ -33,6 +33,12 @@ slice-aggregate-print-2 c = search needs
 
 print-requires-2 : tie.Need-print-requires-2 Inv-loop μ-loop
 print-requires-2 c κs = search needs
+
+slice-aggregate-print-3 : tie.Need-slice-aggregate-print-3 Inv-loop μ-loop
+slice-aggregate-print-3 c = search needs
+
+print-requires-3 : tie.Need-print-requires-3 Inv-loop μ-loop
+print-requires-3 c κs = search needs
 
 enum-told : tie.Need-enum-told Inv-loop μ-loop
 enum-told c = search needs
@@ -64,11 +70,11 @@ line-requires-3 c κs = search needs
 enum-known-gets : tie.Need-enum-known-gets Inv-loop μ-loop
 enum-known-gets c = search needs
 
-slice-aggregate-print-3 : tie.Need-slice-aggregate-print-3 Inv-loop μ-loop
-slice-aggregate-print-3 c = search needs
+slice-aggregate-print-4 : tie.Need-slice-aggregate-print-4 Inv-loop μ-loop
+slice-aggregate-print-4 c = search needs
 
-print-requires-3 : tie.Need-print-requires-3 Inv-loop μ-loop
-print-requires-3 c κs = search needs
+print-requires-4 : tie.Need-print-requires-4 Inv-loop μ-loop
+print-requires-4 c κs = search needs
 
 add-i : tie.Need-add-i Inv-loop μ-loop
 add-i c = search needs
@@ -96,6 +102,8 @@ given-spec =
     print-requires
     slice-aggregate-print-2
     print-requires-2
+    slice-aggregate-print-3
+    print-requires-3
     enum-told
     slice-aggregate-line
     line-requires
@@ -106,8 +114,8 @@ given-spec =
     slice-aggregate-line-3
     line-requires-3
     enum-known-gets
-    slice-aggregate-print-3
-    print-requires-3
+    slice-aggregate-print-4
+    print-requires-4
     add-i
     loop-less
     loop-again

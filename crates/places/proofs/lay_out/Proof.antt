@@ -1,106 +1,136 @@
--- `places::lay_out`: the tests, then the rows. Assumes nothing.
-use Prim.Native.Nat.{_≤_}
-use mathlib.Core.Path.{_≡_, sym, _∙_}
-use mathlib.Core.Bool.{true, _&&_}
+-- `places::lay_out`: one row a turn, laid into the parts of the lists from its first place on. Assumes nothing.
+use Prim.Native.Nat.{_+_, _-_, _≤_}
 use native.Mathlib.Omega.{arith}
 use native.Mathlib.Nat.{mul-le-mul}
-use denote.Ref.{now}
-use lib.ListN.{length}
 use borrow.Author.Needs.{needs}
-use borrow.Author.Tests.{not-true, not-false}
-use Rattle.lists.proofs.Tests.{first-of, second-of}
-use Rattle.map.specs.Format.{readRows}
-use Rattle.map.specs.Counting.{walkable}
-use Rattle.map.proofs.LoopLaws.{walk-told}
-use Rattle.places.specs.Places.{isRead}
-use Rattle.places.proofs.OutLaws.{read-good, unread, people-short, cells-short, mask-short, all-out}
+use Rattle.places.specs.Places.{Lists}
+use Rattle.places.proofs.LayLaws.{LayingRows, Room, rows-start, row-good, row-fits, row-room, part-room, rows-turn, rows-end}
 use Rattle.places.proofs.lay_out.Statement.{statement}
 use Rattle.places.proofs.lay_out.Tie as tie
 
--- past the first test the rows can be read, and their sizes are within a walk's
-reads : (c : tie.Else1) →
-    let a = c .before .before .before .before .before .before .args in
-    walkable (a .columns) (a .rows) (a .always) (length (now (a .edges)))
-    && isRead (readRows (now (a .map)) (a .columns) (a .rows) (a .start))
-    ≡ true
-reads c = sym (c .before .readable .ensures) ∙ not-false (c .before .readable .result) (c .if1 .left)
+abbrev Inv-loop : tie.InvT-loop
+Inv-loop map columns rows start always edges people₀ cells₀ mask₀ from₀ at₀ i₀ people cells mask from at i =
+    LayingRows map columns rows start always edges (record { people = people₀; cells = cells₀; mask = mask₀ })
+    (record { people = people; cells = cells; mask = mask }) from at i
 
-sizes : (c : tie.Else1) →
-    let a = c .before .before .before .before .before .before .args in
-    (a .columns ≤ 256) × (a .rows ≤ 256) × (a .always ≤ 64) × (length (now (a .edges)) ≤ 256)
-sizes c =
-    let a = c .before .before .before .before .before .before .args in
-    let edges = length (now (a .edges)) in
-    walk-told (a .columns) (a .rows) (a .always) edges
-    (first-of (walkable (a .columns) (a .rows) (a .always) edges)
-    (isRead (readRows (now (a .map)) (a .columns) (a .rows) (a .start))) (reads c))
+abbrev μ-loop : tie.MeasureT-loop
+μ-loop map columns rows start always edges people₀ cells₀ mask₀ from₀ at₀ i₀ people cells mask from at i = rows - i
 
-readable-requires : tie.Need-readable-requires
-readable-requires c κs = search needs
+-- the lists as they are at a place of the loop
+abbrev lists : tie.At-loop Inv-loop μ-loop → Lists
+lists c = record { people = c .loop .people; cells = c .loop .cells; mask = c .loop .mask }
 
-returns : tie.Need-returns
-returns c = unread (sym (c .before .readable .ensures) ∙ not-true (c .before .readable .result) (c .if1 .taken))
+-- a turn's row lies within the lists, and its places have small numbers
+room : (c : tie.In-loop Inv-loop μ-loop)
+    → Room (c .before .loop .at + c .before .before .before .before .before .before .args .columns) (lists (c .before))
+room c =
+    let p = c .before .before .before .before .before .before .pre in
+    row-room (c .before .loop .inv) (c .loop-test .taken) (record { people = p .5; cells = p .6; mask = p .7 })
 
-mul-n : tie.Need-mul-n
-mul-n c = record { fits = omega (arith, mul-le-mul (sizes c .1) (sizes c .0)) }
+small : (c : tie.In-loop Inv-loop μ-loop)
+    → c .before .loop .at + c .before .before .before .before .before .before .args .columns ≤ 65536
+small c =
+    let p = c .before .before .before .before .before .before .pre in
+    omega (arith, row-fits (c .before .loop .inv) (c .loop-test .taken), mul-le-mul (p .2) (p .1))
 
-returns-2 : tie.Need-returns-2
-returns-2 c = people-short (reads (c .before)) (c .if2 .taken)
+loop-holds : tie.Need-loop-holds Inv-loop μ-loop
+loop-holds c = rows-start (c .before .before .before .before .pre .0)
 
-returns-3 : tie.Need-returns-3
-returns-3 c = cells-short (reads (c .before .before)) (c .before .if2 .left) (c .if3 .taken)
+mul-lay-row : tie.Need-mul-lay-row Inv-loop μ-loop
+mul-lay-row c = record { fits = omega (arith, small c) }
 
-returns-4 : tie.Need-returns-4
-returns-4 c =
-    mask-short (reads (c .before .before .before)) (c .before .before .if2 .left) (c .before .if3 .left) (c .if4 .taken)
+sub-lay-row : tie.Need-sub-lay-row Inv-loop μ-loop
+sub-lay-row c = omega (arith, room c .people)
 
-lay-rows-requires : tie.Need-lay-rows-requires
-lay-rows-requires c κs =
-    let c3 = c .before .before .before in
-    let c5 = c3 .before .before in
-    let e = c5 .before in
-    let a = e .before .before .before .before .before .before .args in
-    let z = sizes e in
-    let rows = readRows (now (a .map)) (a .columns) (a .rows) (a .start) in (
-      read-good rows (second-of (walkable (a .columns) (a .rows) (a .always) (length (now (a .edges)))) (isRead rows) (reads e)),
-      z .0,
-      z .1,
-      z .2,
-      z .3,
-      c5 .if2 .left,
-      c3 .before .if3 .left,
-      c3 .if4 .left,
-    )
+part-lay-row-start : tie.Need-part-lay-row-start Inv-loop μ-loop
+part-lay-row-start c = omega (arith, room c .people)
 
-same-length : tie.Need-same-length
-same-length c = search needs
+part-lay-row-end : tie.Need-part-lay-row-end Inv-loop μ-loop
+part-lay-row-end c = search needs
 
-same-length-2 : tie.Need-same-length-2
-same-length-2 c = search needs
+sub-lay-row-2 : tie.Need-sub-lay-row-2 Inv-loop μ-loop
+sub-lay-row-2 c = omega (arith, room (c .before) .cells)
 
-same-length-3 : tie.Need-same-length-3
-same-length-3 c = search needs
+part-lay-row-start-2 : tie.Need-part-lay-row-start-2 Inv-loop μ-loop
+part-lay-row-start-2 c = omega (arith, room (c .before) .cells)
 
-returns-5 : tie.Need-returns-5
-returns-5 c =
-    let c6 = c .before .before .before .before .before .before in
-    let c10 = c6 .before .before .before .before in
-    let c12 = c10 .before .before in
-    all-out (reads (c12 .before))
-    (record { people = c12 .if2 .left; cells = c10 .before .if3 .left; mask = c10 .if4 .left }) (c6 .lay-rows .ensures)
+part-lay-row-end-2 : tie.Need-part-lay-row-end-2 Inv-loop μ-loop
+part-lay-row-end-2 c = search needs
+
+sub-lay-row-3 : tie.Need-sub-lay-row-3 Inv-loop μ-loop
+sub-lay-row-3 c = omega (arith, room (c .before .before) .mask)
+
+part-lay-row-start-3 : tie.Need-part-lay-row-start-3 Inv-loop μ-loop
+part-lay-row-start-3 c = omega (arith, room (c .before .before) .mask)
+
+part-lay-row-end-3 : tie.Need-part-lay-row-end-3 Inv-loop μ-loop
+part-lay-row-end-3 c = search needs
+
+lay-row-requires : tie.Need-lay-row-requires Inv-loop μ-loop
+lay-row-requires c κs =
+    let l = c .before .before .before .before .loop in
+    let p = c .before .before .before .before .before .before .before .before .before .pre in
+    let h = c .before .before .before .loop-test .taken in
+    let r = part-room (l .inv) h (record { people = p .5; cells = p .6; mask = p .7 }) in
+    (row-good (l .inv) h, p .1, p .3, p .4, r .people, r .cells, r .mask)
+
+add-at : tie.Need-add-at Inv-loop μ-loop
+add-at c =
+    let c10 = c .before .before .before .before .before .before .before .before .before .before in
+    record { fits = omega (arith, small c10) }
+
+add-i : tie.Need-add-i Inv-loop μ-loop
+add-i c = search needs
+
+loop-less : tie.Need-loop-less Inv-loop μ-loop
+loop-less c = search needs
+
+loop-again : tie.Need-loop-again Inv-loop μ-loop
+loop-again c =
+    let c10 = c .before .before .before .before .before .before .before .before .before .before in
+    let p = c10 .before .before .before .before .before .before .pre in
+    let z = c .before .before .before .before .before .before .lay-row in
+    let last = z .last .1 .1 .1 .1 .1 in
+    let kept = z .kept .1 .1 .1 .1 .1 in
+    rows-turn (c10 .before .loop .inv) (record { people = last .0; cells = last .1 .0; mask = last .1 .1 .0 }) (c10 .loop-test .taken)
+    (record { people = p .5; cells = p .6; mask = p .7 })
+    (record { people = kept .0; cells = kept .1 .0; mask = kept .1 .1 .0 }) (z .ensures)
+
+same-length : tie.Need-same-length Inv-loop μ-loop
+same-length c = c .before .loop .inv .laid .people .is .kept
+
+same-length-2 : tie.Need-same-length-2 Inv-loop μ-loop
+same-length-2 c = c .before .loop .inv .laid .cells .is .kept
+
+same-length-3 : tie.Need-same-length-3 Inv-loop μ-loop
+same-length-3 c = c .before .loop .inv .laid .mask .is .kept
+
+returns : tie.Need-returns Inv-loop μ-loop
+returns c = rows-end (c .before .loop .inv) (c .loop-test .left)
 
 pub lay-out-spec : {M : Type 1} → statement M
 lay-out-spec =
     tie.close
     (tie.spec
-    readable-requires
-    returns
-    mul-n
-    returns-2
-    returns-3
-    returns-4
-    lay-rows-requires
+    Inv-loop
+    μ-loop
+    loop-holds
+    mul-lay-row
+    sub-lay-row
+    part-lay-row-start
+    part-lay-row-end
+    sub-lay-row-2
+    part-lay-row-start-2
+    part-lay-row-end-2
+    sub-lay-row-3
+    part-lay-row-start-3
+    part-lay-row-end-3
+    lay-row-requires
+    add-at
+    add-i
+    loop-less
+    loop-again
     same-length
     same-length-2
     same-length-3
-    returns-5)
+    returns)

@@ -3,16 +3,13 @@ use Prim.Native.Nat.{ℕ, _+_}
 use mathlib.Core.Path.{_≡_, refl, sym, ap, subst, _∙_}
 use denote.Ref.{now}
 use lib.Dec.{ltb}
-use lib.ListN.{length}
 use mir.Syntax.{w32}
 use mir.Facts.{toZ-ofZ}
-use borrow.Author.Tests.{le-leb}
 use borrow.Author.Needs.{needs}
 use Rattle.lists.specs.Sums.{flag}
-use Rattle.lists.proofs.Tests.{takes}
 use Rattle.map.specs.Reading.{Read}
 use Rattle.map.specs.Format.{Place}
-use Rattle.map.specs.Counting.{boxesOver}
+use Rattle.boxes.specs.Boxes.{boxesOver}
 use Rattle.map.specs.Answers.{placeMeans}
 use Rattle.places.specs.declared.Shown.{Shown}
 use Rattle.places.specs.Rows.{PlaceShown}
@@ -37,8 +34,8 @@ no-cell-requires-2 c κs = search needs
 enum-known-c : tie.Need-enum-known-c
 enum-known-c c = search needs
 
-covering-requires : tie.Need-covering-requires
-covering-requires c κs = search needs
+boxes-over-requires : tie.Need-boxes-over-requires
+boxes-over-requires c κs = search needs
 
 add-mark : tie.Need-add-mark
 add-mark c = search needs
@@ -51,7 +48,7 @@ returns c =
     let c3 = c .before .before .before in
     let a = c3 .before .before .args in
     subst (λ (r : Read Place). PlaceShown r (a .always) (now (a .edges)) (c .no-cell .result))
-    (sym (ap placeMeans (c .before .enum-told .given .1)) ∙ c3 .place .ensures .0) tt
+    (sym (ap placeMeans (c .before .enum-told .given .1)) ∙ c3 .place .ensures) tt
 
 returns-2 : tie.Need-returns-2
 returns-2 c =
@@ -59,7 +56,7 @@ returns-2 c =
     let a = c4 .before .before .args in
     let n = c .no-cell2 .ensures in
     subst (λ (r : Read Place). PlaceShown r (a .always) (now (a .edges)) (c .no-cell2 .result))
-    (sym (ap placeMeans (c .before .before .next .given .1)) ∙ c4 .place .ensures .0)
+    (sym (ap placeMeans (c .before .before .next .given .1)) ∙ c4 .place .ensures)
     (record { people = n .0; cell = n .1; covered = n .2 }, n .3)
 
 returns-3 : tie.Need-returns-3
@@ -72,15 +69,14 @@ returns-3 c =
     let g = c5 .c .given in
     let k = g .0 .0 in
     let t = c .before .before .struct-told2 .given in
-    let over : c .before .covering .result ≡ boxesOver edges (k .latitude) (k .longitude) =
-    c .before .covering .ensures .0
-    ∙ sym (takes {A = ℕ} 0 (le-leb (length edges) 256 (c9 .pre .1)))
+    let over : c .before .boxes-over .result ≡ boxesOver edges (k .latitude) (k .longitude) =
+    c .before .boxes-over .ensures .0
     ∙ (λ i. boxesOver edges
     (toZ-ofZ {w = w32} {z = k .latitude} (record { sfits = t .1 .0 .1 }) i)
     (toZ-ofZ {w = w32} {z = k .longitude} (record { sfits = t .1 .1 .0 .1 }) i)) in
     let x : Shown = record { people = k .people; cell = 1; covered = c .mark .result; next = g .0 .1 .0 } in
     subst (λ (r : Read Place). PlaceShown r (a .always) edges x)
-    (sym (ap placeMeans (g .1)) ∙ c7 .place .ensures .0) (
+    (sym (ap placeMeans (g .1)) ∙ c7 .place .ensures) (
       record {
         people = refl;
         cell = refl;
@@ -99,7 +95,7 @@ show-spec =
     enum-known-next
     no-cell-requires-2
     enum-known-c
-    covering-requires
+    boxes-over-requires
     add-mark
     mark-requires
     returns

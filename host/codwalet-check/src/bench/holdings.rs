@@ -92,6 +92,16 @@ pub fn largest(boxes: usize) -> Holdings {
     Holdings { map: map_of(&areas), register: register_of(&boxes) }
 }
 
+/// The largest map with 100 people in each cell of its last area, and a box over 16 by 16 of these. The share is worth
+/// 128 cells: after rings of 60 and 52 cells 144 are left, and the next ring, of 44, is the last.
+pub fn few_rings() -> Holdings {
+    let mut areas = largest_areas();
+    let last = Area { people: &|_, _| Some(100), ..areas[AREAS - 1] };
+    areas[AREAS - 1] = last;
+    let square = box_over(1, &last, [56, 72], [56, 72]);
+    Holdings { map: map_of(&areas), register: register_of(&[square]) }
+}
+
 /// As large a map with all areas in one place, and 64 boxes that each leave out the columns up to another one, so that
 /// each box cuts every row. All but the first eight areas have people only where no box leaves them out.
 pub fn largest_cut() -> Holdings {

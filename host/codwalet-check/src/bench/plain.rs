@@ -12,14 +12,26 @@ mod register;
 mod row;
 mod search;
 
-use codwalet::raw::{Outline, Proposal, Register};
-use coverage::Grounds;
+use codwalet::raw::{Covered, Outline, Proposal, Register};
+use coverage::{Count, Grounds};
 pub use register::{cancel, grant};
 
 /// 0 if the map is accepted, else its refusal.
 #[inline(never)]
 pub fn check_map(map: &[u8]) -> u32 {
     map::read(map, &Grounds::default()).err().unwrap_or(0)
+}
+
+/// The people and the cells covered in the area with a number: zeros if the map lacks it.
+#[inline(never)]
+pub fn coverage(map: &[u8], register: Register, number: u16) -> Covered {
+    let areas = match map::read(map, &Grounds::of(&register).only_in(number)) {
+        Err(refusal) => return Covered { refusal, ..Covered::default() },
+        Ok(areas) => areas,
+    };
+    let area = areas.iter().find(|area| area.number == number);
+    let Count { people, cells } = area.map_or(Count::default(), |area| area.covered);
+    Covered { people, cells, ..Covered::default() }
 }
 
 /// The proposal with a draw.

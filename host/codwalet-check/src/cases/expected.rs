@@ -1,7 +1,7 @@
 //! The lines that the program `holdings` must print for a case, by the independent implementation of document 01.
 
 use super::encoding::{Call, Case};
-use crate::reference::{self, Area, Blocks, Fault, Gets, Ground, Licence, Proposal};
+use crate::reference::{self, Area, Blocks, Covered, Fault, Gets, Ground, Licence, Proposal};
 
 /// What the program puts into a mask before it lends it: no byte of a footprint.
 const UNTOUCHED: u8 = 9;
@@ -111,11 +111,17 @@ fn proposals_lines(map: &[u8], ledger: &[Licence], numbers: &[u16], draws: &[u32
 }
 
 /// Coverage and blocks of one area: "zeros for a number that the map lacks".
-fn coverage_lines(area: Option<&Area>, ledger: &[Licence]) -> [String; 4] {
-    let people = area.map_or(0, |area| reference::covered(ledger, area));
+fn coverage_lines(area: Option<&Area>, ledger: &[Licence]) -> [String; 5] {
+    let Covered { people, cells } = area.map_or(Covered::default(), |area| reference::covered(ledger, area));
     let none = Blocks { whole: 0, value: 0, size: 0 };
     let Blocks { whole, value, size } = area.map_or(none, |area| reference::blocks(ledger, area));
-    [format!(" people {people}"), format!(" whole {whole}"), format!(" value {value}"), format!(" size {size}")]
+    [
+        format!(" people {people}"),
+        format!(" cells {cells}"),
+        format!(" whole {whole}"),
+        format!(" value {value}"),
+        format!(" size {size}"),
+    ]
 }
 
 fn proposal_lines(proposal: &Proposal) -> Vec<String> {
@@ -128,6 +134,7 @@ fn proposal_lines(proposal: &Proposal) -> Vec<String> {
     for given in &proposal.areas {
         lines.push(format!(" area {}", given.number));
         lines.push(format!("  blocks {}", given.blocks));
+        lines.push(format!("  cells {}", given.cells));
         lines.push(match given.gets {
             Gets::Nothing => "  nothing".to_string(),
             Gets::Whole => "  whole".to_string(),
@@ -270,9 +277,10 @@ mod tests {
     #[test]
     fn proposals() {
         let proposals = |map| Case::Proposals { map, numbers: vec![1, 2], draws: vec![4] };
-        let holding_10 = "coverage 1\n people 7\n whole 0\n value 350\n size 2000\n\
-                          coverage 2\n people 0\n whole 0\n value 0\n size 0\n\
-                          propose 4\n kind 3\n target 350\n white 1650\n tied 1\n area 1\n  blocks 0\n  share 350\n";
+        let holding_10 = "coverage 1\n people 7\n cells 2\n whole 0\n value 350\n size 2000\n\
+                          coverage 2\n people 0\n cells 0\n whole 0\n value 0\n size 0\n\
+                          propose 4\n kind 3\n target 350\n white 1650\n tied 1\n\
+                          \x20area 1\n  blocks 0\n  cells 2\n  share 350\n";
         assert_eq!(lines(&proposals(one_row()), &mut one_licence()), holding_10);
         let refused = "coverage 1\n refused 1\n refused 1\ncoverage 2\n refused 1\n refused 1\npropose 4\n refused 1\n";
         assert_eq!(lines(&proposals(Vec::new()), &mut one_licence()), refused);

@@ -39,7 +39,8 @@ pub fn add(cases: &mut Cases, random: &mut Random) {
     }
 }
 
-fn propose(cases: &mut Cases, map: Vec<u8>, numbers: &[u16], draws: &[u32]) {
+/// Coverage and blocks of some areas, and a proposal with each of some draws.
+pub fn propose(cases: &mut Cases, map: Vec<u8>, numbers: &[u16], draws: &[u32]) {
     let (numbers, draws) = (numbers.to_vec(), draws.to_vec());
     cases.add(Case::Proposals { map, numbers, draws });
 }

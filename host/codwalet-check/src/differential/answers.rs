@@ -1,6 +1,6 @@
 //! The reference's answers in the form of the C interface, to be compared field by field.
 
-use crate::reference::{self, Area, Gets, Given, Ground, Licence};
+use crate::reference::{self, Area, Covered, Gets, Given, Ground, Licence};
 use codwalet::limits::{AREAS, LICENCES};
 use codwalet::raw::{self, GROUND_AREA, GROUND_BOX, Register};
 
@@ -71,12 +71,11 @@ pub fn look_up(map: &[u8], number: u16) -> raw::Area {
     }
 }
 
-/// The people covered in the area with a number.
+/// The people and the cells covered in the area with a number.
 pub fn coverage(map: &[u8], lines: &[Licence], number: u16) -> raw::Covered {
-    match with_number(map, number) {
+    match reference::coverage(map, lines, number) {
         Err(refusal) => raw::Covered { refusal, ..raw::Covered::default() },
-        Ok(None) => raw::Covered::default(),
-        Ok(Some(area)) => raw::Covered { people: reference::covered(lines, &area), ..raw::Covered::default() },
+        Ok(Covered { people, cells }) => raw::Covered { people, cells, ..raw::Covered::default() },
     }
 }
 
@@ -100,7 +99,7 @@ const NO_PROPOSAL: raw::Proposal = raw::Proposal {
     count: 0,
     target: 0,
     white_space: 0,
-    areas: [raw::Given { number: 0, gets: 0, blocks: 0, share: 0 }; AREAS],
+    areas: [raw::Given { number: 0, gets: 0, blocks: 0, share: 0, cells: 0 }; AREAS],
 };
 
 fn raw_given(given: &Given) -> raw::Given {
@@ -110,7 +109,7 @@ fn raw_given(given: &Given) -> raw::Given {
         Gets::RoundedUp => (2, 0),
         Gets::Share(share) => (3, share),
     };
-    raw::Given { number: u32::from(given.number), gets, blocks: given.blocks, share }
+    raw::Given { number: u32::from(given.number), gets, blocks: given.blocks, share, cells: given.cells }
 }
 
 /// The proposal with a draw.

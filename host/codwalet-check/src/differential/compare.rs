@@ -7,6 +7,7 @@ use super::case::{Call, Case};
 use super::engine::{Buffers, Engine, Lent};
 use super::fields::Fields;
 use super::seen::Seen;
+use super::sorts;
 use crate::random::Random;
 use crate::reference;
 use codwalet::raw::{Licence, Register, Step};
@@ -121,6 +122,7 @@ impl<E: Engine> Run<'_, E> {
             Call::Coverage(number) => {
                 let expected = answers::coverage(self.map, &self.lines, number);
                 self.seen.refusal(expected.refusal);
+                self.seen.sorts(&sorts::of_coverage(self.map, &self.lines, number));
                 same_fields(&expected, &self.engine.coverage(self.map, self.register, number))
             }
             Call::Blocks(number) => {
@@ -131,6 +133,7 @@ impl<E: Engine> Run<'_, E> {
             Call::Propose(draw) => {
                 let expected = answers::propose(self.map, &self.lines, draw);
                 self.seen.proposal(&expected);
+                self.seen.sorts(&sorts::of_proposal(self.map, &self.lines, &expected));
                 same_fields(&expected, &self.engine.propose(self.map, self.register, draw))
             }
             Call::Footprint { draw, more_mask, more_table } => self.footprint(draw, more_mask, more_table),

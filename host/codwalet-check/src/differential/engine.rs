@@ -87,7 +87,7 @@ pub trait Engine {
     fn look_up(&self, map: &[u8], number: u16) -> Area;
     /// The areas of an accepted map with their numbers, as the library lists them; none of a refused one.
     fn areas(&self, map: &[u8]) -> Vec<(u16, Area)>;
-    /// The people covered in the area with a number.
+    /// The people and the cells covered in the area with a number.
     fn coverage(&self, map: &[u8], current: Register, number: u16) -> Covered;
     /// The blocks of the area with a number.
     fn blocks(&self, map: &[u8], current: Register, number: u16) -> Held;

@@ -28,7 +28,12 @@ impl Fields for Area {
 
 impl Fields for Covered {
     fn fields(&self) -> Vec<(String, u64)> {
-        named([("people", self.people), ("refusal", self.refusal.into()), ("unused", self.unused.into())])
+        named([
+            ("people", self.people),
+            ("cells", self.cells),
+            ("refusal", self.refusal.into()),
+            ("unused", self.unused.into()),
+        ])
     }
 }
 
@@ -60,6 +65,7 @@ impl Fields for Proposal {
             fields.push((of_area("gets"), given.gets.into()));
             fields.push((of_area("blocks"), given.blocks));
             fields.push((of_area("share"), given.share));
+            fields.push((of_area("cells"), given.cells));
         }
         fields
     }

@@ -1,5 +1,6 @@
 //! The kinds of cases.
 
+mod cells;
 mod damage;
 mod footprints;
 mod limits;
@@ -9,7 +10,7 @@ use super::build::{self, SMALL, Style};
 use super::case::{Call, Case};
 use crate::maps::write_map;
 use crate::random::Random;
-use crate::reference::Ground;
+use crate::reference::{Area, Ground};
 
 /// A kind of cases, and how one is made.
 pub struct Kind {
@@ -18,7 +19,7 @@ pub struct Kind {
 }
 
 /// All kinds.
-pub const KINDS: [Kind; 17] = [
+pub const KINDS: [Kind; 19] = [
     Kind { name: "small maps with ties", make: small_maps },
     Kind { name: "99 and 90 in the hundred", make: near_whole },
     Kind { name: "maps at the limits", make: limits::case },
@@ -36,6 +37,8 @@ pub const KINDS: [Kind; 17] = [
     Kind { name: "snakes", make: footprints::snakes },
     Kind { name: "long last rings", make: footprints::long_rings },
     Kind { name: "large slacks", make: footprints::large_slacks },
+    Kind { name: "areas alike but for cells", make: cells::alike },
+    Kind { name: "greatest counts of cells", make: cells::greatest },
 ];
 
 /// Small maps, whose areas are often worth the same.
@@ -79,10 +82,14 @@ fn look_ups(random: &mut Random) -> Case {
     Case { map: write_map(&areas), start: None, calls, fill: random.word() }
 }
 
-/// Coverage and blocks under boxes that overlap, touch and nest, with edges on cells.
+/// Coverage and blocks under boxes that overlap, touch and nest, with edges on cells. Once in three the points of cells
+/// are anywhere, and not where their row and column would have them.
 fn boxes(random: &mut Random) -> Case {
     let count = random.between(1, 4) as usize;
-    let areas = build::areas(random, count, Style { sides: (1, 10), people: 1_000, ..SMALL });
+    let mut areas = build::areas(random, count, Style { sides: (1, 10), people: 1_000, ..SMALL });
+    if random.once_in(3) {
+        areas.iter_mut().for_each(|area| scatter(random, area));
+    }
     let licences = random.between(1, 64);
     let grounds: Vec<_> = (0..licences).map(|_| build::box_on_cells(random, &areas[0])).collect();
     let mut case = build::reading(random, &areas, &grounds, 1);
@@ -90,4 +97,12 @@ fn boxes(random: &mut Random) -> Case {
         case.calls.extend([Call::Coverage(area.number), Call::Blocks(area.number)]);
     }
     case
+}
+
+/// Puts the points of an area's cells anywhere near 0.
+fn scatter(random: &mut Random, area: &mut Area) {
+    for cell in area.cells.iter_mut().flatten() {
+        cell.latitude = random.between(-9, 9) as i32;
+        cell.longitude = random.between(-9, 9) as i32;
+    }
 }

@@ -1,7 +1,9 @@
 //! Counts of what the reference answered, to show that every sort of answer came up.
 
+use std::collections::BTreeMap;
 use std::fmt::{self, Display, Formatter};
 
+use super::sorts::SORTS;
 use codwalet::raw::{Outline, Proposal};
 
 /// Refusals are numbered 1 to 13, and 0 is none.
@@ -17,6 +19,8 @@ pub struct Seen {
     /// Footprints without a last ring, and with one.
     even: usize,
     last_ring: usize,
+    /// Sorts of counts of cells, by name.
+    sorts: BTreeMap<&'static str, usize>,
 }
 
 impl Seen {
@@ -40,6 +44,15 @@ impl Seen {
         }
     }
 
+    /// Counts the sorts of a coverage or a proposal.
+    pub fn sorts(&mut self, names: &[&'static str]) {
+        names.iter().for_each(|name| *self.sorts.entry(name).or_default() += 1);
+    }
+
+    fn sort(&self, name: &str) -> usize {
+        self.sorts.get(name).copied().unwrap_or(0)
+    }
+
     /// The names of what never came up.
     pub fn lacking(&self) -> Vec<String> {
         let refusals = self.refusals.iter().enumerate().map(|(number, &count)| (format!("refusal {number}"), count));
@@ -49,7 +62,8 @@ impl Seen {
             ("a footprint without a last ring".to_string(), self.even),
             ("a footprint with a last ring".to_string(), self.last_ring),
         ];
-        let counts = refusals.chain(kinds).chain(others);
+        let sorts = SORTS.iter().map(|name| (name.to_string(), self.sort(name)));
+        let counts = refusals.chain(kinds).chain(others).chain(sorts);
         counts.filter(|&(_, count)| count == 0).map(|(name, _)| name).collect()
     }
 
@@ -62,6 +76,7 @@ impl Seen {
         self.tied += other.tied;
         self.even += other.even;
         self.last_ring += other.last_ring;
+        other.sorts.iter().for_each(|(name, count)| *self.sorts.entry(name).or_default() += count);
     }
 }
 
@@ -77,6 +92,7 @@ impl Display for Seen {
             "\nproposals exact {exact}, rounded up {rounded_up}, one part {one_part}, with ties {}",
             self.tied
         )?;
-        write!(out, "; footprints without a last ring {}, with one {}", self.even, self.last_ring)
+        write!(out, "; footprints without a last ring {}, with one {}", self.even, self.last_ring)?;
+        SORTS.iter().try_for_each(|name| write!(out, "\n{name} {}", self.sort(name)))
     }
 }

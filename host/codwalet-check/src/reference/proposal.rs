@@ -1,6 +1,6 @@
 //! The proposal: every choice is listed.
 
-use super::coverage::{Blocks, blocks};
+use super::coverage::{Blocks, blocks, covered};
 use super::map::Area;
 use super::register::Licence;
 use std::cmp::Ordering;
@@ -17,16 +17,18 @@ pub enum Gets {
     Share(u64),
 }
 
-/// An area's line of a proposal: the whole blocks that it has, and what it gets.
+/// An area's line of a proposal: the whole blocks that it has, its sum of covered cells, and what it gets.
 #[derive(Clone, Copy, Debug, PartialEq, Eq)]
 pub struct Given {
     pub number: u16,
     pub blocks: u64,
+    pub cells: u64,
     pub gets: Gets,
 }
 
 /// "The answer: kind (1 exact, 2 rounded up, 3 one part), T, white space, tied count, and for each map area its whole
-/// blocks and what it gets."
+/// blocks and what it gets." "The proposal shows the sum of cells for each map area." Nothing else here reads them:
+/// "Ranking and shares read people only."
 #[derive(Clone, Debug, PartialEq, Eq)]
 pub struct Proposal {
     pub kind: u32,
@@ -180,6 +182,7 @@ pub fn propose(areas: &[Area], lines: &[Licence], draw: u32) -> Result<Proposal,
         Given {
             number: area.number,
             blocks: blocks(lines, area).whole,
+            cells: covered(lines, area).cells,
             gets: place.map_or(Gets::Nothing, |place| choice.gets(place, &partials)),
         }
     };

@@ -56,18 +56,19 @@ struct Holding {
     white_space: u64,
     tied: u64,
     blocks: u64,
-    gets: &'static [Gets],
+    /// Each area's covered cells, of the two or five that it is built from here, and what it gets.
+    areas: &'static [(u64, Gets)],
     /// Where a footprint is asked for: the mask, and the table's entries.
     footprint: Option<([u8; 5], usize)>,
 }
 
-const fn exact(name: &'static str, held: Held, gets: &'static [Gets]) -> Holding {
+const fn exact(name: &'static str, held: Held, areas: &'static [(u64, Gets)]) -> Holding {
     let footprint = None;
-    Holding { name, held, draw: 0, kind: 1, target: 0, white_space: 0, tied: 0, blocks: 0, gets, footprint }
+    Holding { name, held, draw: 0, kind: 1, target: 0, white_space: 0, tied: 0, blocks: 0, areas, footprint }
 }
 
-const fn part(name: &'static str, held: Held, target: u64, white_space: u64, gets: &'static [Gets]) -> Holding {
-    Holding { kind: 3, target, white_space, tied: 1, ..exact(name, held, gets) }
+const fn part(name: &'static str, held: Held, target: u64, white: u64, areas: &'static [(u64, Gets)]) -> Holding {
+    Holding { kind: 3, target, white_space: white, tied: 1, ..exact(name, held, areas) }
 }
 
 // A row of the table is a holding: it stays on two lines.
@@ -76,22 +77,23 @@ const HOLDINGS: [Holding; 13] = {
     use Gets::{Nothing, RoundedUp, Share, Whole};
     use Held::{Areas, Row};
     [
-        Holding { blocks: 1, ..exact("1", Areas(&[(1, 100, 198)]), &[Nothing]) },
-        Holding { kind: 2, ..part("2", Areas(&[(1, 100, 197)]), 9_850, 150, &[RoundedUp]) },
-        Holding { kind: 2, ..part("3", Areas(&[(1, 100, 180)]), 9_000, 1_000, &[RoundedUp]) },
-        part("4", Areas(&[(1, 100, 179)]), 8_950, 1_050, &[Share(8_950)]),
-        Holding { target: 10_000, ..exact("5", Areas(&[(1, 100, 100), (1, 100, 100)]), &[Whole, Nothing]) },
-        part("6", Areas(&[(1, 100, 100), (1, 40, 40)]), 7_000, 3_000, &[Share(7_000), Nothing]),
+        Holding { blocks: 1, ..exact("1", Areas(&[(1, 100, 198)]), &[(3, Nothing)]) },
+        Holding { kind: 2, ..part("2", Areas(&[(1, 100, 197)]), 9_850, 150, &[(3, RoundedUp)]) },
+        Holding { kind: 2, ..part("3", Areas(&[(1, 100, 180)]), 9_000, 1_000, &[(3, RoundedUp)]) },
+        part("4", Areas(&[(1, 100, 179)]), 8_950, 1_050, &[(3, Share(8_950))]),
+        Holding { target: 10_000,
+            ..exact("5", Areas(&[(1, 100, 100), (1, 100, 100)]), &[(3, Whole), (3, Nothing)]) },
+        part("6", Areas(&[(1, 100, 100), (1, 40, 40)]), 7_000, 3_000, &[(3, Share(7_000)), (3, Nothing)]),
         Holding { kind: 2, ..part("7", Areas(&[(1, 1_000, 1_000), (1, 330, 300), (1, 330, 300), (1, 330, 300)]),
-            95_000, 5_000, &[RoundedUp, Nothing, Nothing, Nothing]) },
-        part("8", Areas(&[(1, 100, 180), (3, 120, 200)]), 39_000, 7_000, &[Whole, Share(29_000)]),
+            95_000, 5_000, &[(3, RoundedUp), (1, Nothing), (1, Nothing), (1, Nothing)]) },
+        part("8", Areas(&[(1, 100, 180), (3, 120, 200)]), 39_000, 7_000, &[(3, Whole), (3, Share(29_000))]),
         Holding { tied: 2, ..part("9, draw 0", Areas(&[(1, 100, 150), (1, 100, 150)]),
-            15_000, 5_000, &[Share(5_000), Whole]) },
+            15_000, 5_000, &[(3, Share(5_000)), (3, Whole)]) },
         Holding { tied: 2, draw: 3, ..part("9, draw 3", Areas(&[(1, 100, 150), (1, 100, 150)]),
-            15_000, 5_000, &[Whole, Share(5_000)]) },
-        Holding { footprint: Some(([0, 0, 1, 0, 0], 4)), ..part("10", Row(1), 350, 1_650, &[Share(350)]) },
-        Holding { footprint: Some(([0, 0, 1, 1, 0], 0)), ..part("11", Row(2), 700, 1_300, &[Share(700)]) },
-        Holding { footprint: Some(([0, 1, 1, 1, 1], 5)), ..part("12", Row(3), 1_050, 950, &[Share(1_050)]) },
+            15_000, 5_000, &[(3, Whole), (3, Share(5_000))]) },
+        Holding { footprint: Some(([0, 0, 1, 0, 0], 4)), ..part("10", Row(1), 350, 1_650, &[(2, Share(350))]) },
+        Holding { footprint: Some(([0, 0, 1, 1, 0], 0)), ..part("11", Row(2), 700, 1_300, &[(4, Share(700))]) },
+        Holding { footprint: Some(([0, 1, 1, 1, 1], 5)), ..part("12", Row(3), 1_050, 950, &[(6, Share(1_050))]) },
     ]
 };
 
@@ -111,13 +113,13 @@ fn hold(held: &Held) -> (Vec<Area>, Vec<Licence>) {
 fn the_twelve_holdings() {
     for holding in &HOLDINGS {
         let (areas, lines) = hold(&holding.held);
-        let given = |(place, &gets)| Given { number: place as u16 + 1, blocks: holding.blocks, gets };
+        let given = |(place, &(cells, gets))| Given { number: place as u16 + 1, blocks: holding.blocks, cells, gets };
         let by_hand = Proposal {
             kind: holding.kind,
             target: holding.target,
             white_space: holding.white_space,
             tied: holding.tied,
-            areas: holding.gets.iter().enumerate().map(given).collect(),
+            areas: holding.areas.iter().enumerate().map(given).collect(),
         };
         assert_eq!(propose(&areas, &lines, holding.draw), Ok(by_hand), "holding {}", holding.name);
         if let Some((mask, entries)) = holding.footprint {
@@ -126,6 +128,34 @@ fn the_twelve_holdings() {
             assert_eq!(outline.entries, entries, "holding {}", holding.name);
         }
     }
+}
+
+/// Three areas with pop 100 and c 150 each, of two, three and five cells: cells without people decide nothing.
+#[test]
+fn areas_that_differ_in_cells_alone() {
+    let areas = [row(1, 1, &[50, 50]), row(2, 1, &[50, 0, 50]), row(3, 1, &[50, 50, 0, 0, 0])];
+    let each = [1, 2, 3].map(|number| [Ground::Area(number), columns(number, 0, 1)]);
+    let lines = licences(&each.concat());
+    for draw in 0..6 {
+        let proposal = propose(&areas, &lines, draw).expect("three partial areas");
+        assert_eq!((proposal.kind, proposal.target, proposal.white_space, proposal.tied), (3, 22_500, 7_500, 3));
+        let cells: Vec<u64> = proposal.areas.iter().map(|given| given.cells).collect();
+        assert_eq!(cells, [3, 4, 6]);
+        let shared = proposal.areas.iter().position(|given| given.gets == Gets::Share(2_500));
+        assert_eq!(shared, Some(draw as usize % 3), "draw {draw}");
+    }
+}
+
+/// An area that is whole, one that has only cells without people covered, and one under no licence show their cells
+/// too.
+#[test]
+fn cells_of_areas_that_are_not_partial() {
+    let areas = [row(1, 1, &[5, 0, 5]), row(2, 1, &[0, 0, 9]), row(3, 1, &[7, 0])];
+    let lines = licences(&[Ground::Area(1), Ground::Area(1), columns(2, 0, 2)]);
+    let given = |number, blocks, cells| Given { number, blocks, cells, gets: Gets::Nothing };
+    let by_hand = vec![given(1, 1, 6), given(2, 0, 2), given(3, 0, 0)];
+    let exact = Proposal { kind: 1, target: 0, white_space: 0, tied: 0, areas: by_hand };
+    assert_eq!(propose(&areas, &lines, 0), Ok(exact));
 }
 
 #[test]

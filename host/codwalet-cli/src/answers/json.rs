@@ -15,8 +15,9 @@ pub fn json(answer: &Answer) -> String {
             object.number("bytes", map.bytes().len() as u64);
         }
         Outcome::Granted(count) | Outcome::Cancelled(count) => object.number("in_force", *count as u64),
-        Outcome::Coverage { people, in_map } => {
-            object.number("people", people.0);
+        Outcome::Coverage { coverage, in_map } => {
+            object.number("people", coverage.people.0);
+            object.number("cells", coverage.cells);
             object.value("in_map", in_map.to_string());
         }
         Outcome::Blocks { blocks, in_map } => {
@@ -90,6 +91,7 @@ fn given_object(given: &Given) -> String {
     let mut object = Object::new();
     object.number("area", given.number);
     object.number("whole_blocks", given.blocks);
+    object.number("cells", given.cells);
     object.text("gets", given.gets.words());
     if let Some(share) = given.gets.share() {
         object.number("share", share.0);

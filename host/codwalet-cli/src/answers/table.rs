@@ -5,7 +5,7 @@ use crate::picture::{Drawing, terminal};
 use crate::plan::run::{Answer, Outcome};
 use crate::plan::{Call, Plan};
 use crate::shown::shown;
-use codwalet::{Blocks, Given, Kind, Part, Proposal};
+use codwalet::{Blocks, Coverage, Given, Kind, Part, Proposal};
 
 /// Blanks before the lines below an answer: the width of the first column.
 const INDENT: &str = "      ";
@@ -49,7 +49,7 @@ fn first_line(answer: &Answer) -> String {
         Outcome::Map(map) => size_words(map),
         Outcome::Granted(count) => format!("granted; {}", in_force_words(*count)),
         Outcome::Cancelled(count) => format!("cancelled; {}", in_force_words(*count)),
-        Outcome::Coverage { people, in_map } => format!("{people}{}", lacking(*in_map)),
+        Outcome::Coverage { coverage, in_map } => format!("{}{}", coverage_words(coverage), lacking(*in_map)),
         Outcome::Blocks { blocks, in_map } => format!("{}{}", blocks_words(blocks), lacking(*in_map)),
         Outcome::Proposal(proposal) => kind_words(proposal),
         Outcome::Footprint(drawing) => footprint_words(drawing, answer),
@@ -63,6 +63,11 @@ fn in_force_words(count: usize) -> String {
 
 fn lacking(in_map: bool) -> &'static str {
     if in_map { "" } else { " (the map lacks the area)" }
+}
+
+/// People and cells, apart: under two licences both count twice.
+fn coverage_words(coverage: &Coverage) -> String {
+    format!("{}, {}", coverage.people, counted(coverage.cells, "cell", "cells"))
 }
 
 fn blocks_words(blocks: &Blocks) -> String {
@@ -92,14 +97,15 @@ fn proposal_lines(proposal: &Proposal) -> Vec<String> {
         format!("white space  {white_space:>width$} weighted MHz-pops"),
         format!("tied         {:>width$} {tied}", proposal.tied),
         String::new(),
-        "area  whole blocks  gets".to_string(),
+        "area  whole blocks      cells  gets".to_string(),
     ];
     lines.extend(proposal.areas.iter().map(given_line));
     lines
 }
 
+/// The most cells, 64 licences over 128 x 128 places each, have nine characters.
 fn given_line(given: &Given) -> String {
-    format!("{:>4}  {:>12}  {}", given.number, grouped(given.blocks), given.gets)
+    format!("{:>4}  {:>12}  {:>9}  {}", given.number, grouped(given.blocks), grouped(given.cells), given.gets)
 }
 
 fn footprint_words(drawing: &Drawing, answer: &Answer) -> String {

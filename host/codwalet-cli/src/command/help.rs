@@ -40,7 +40,7 @@ A plan has a call on each line; # at the start of a word starts a comment, and
   grant CALLSIGN area NUMBER
   grant CALLSIGN box SOUTH NORTH WEST EAST
   cancel CALLSIGN
-  coverage NUMBER
+  coverage NUMBER                   people and cells that licences cover
   blocks NUMBER
   propose DRAW                      the draw decides among tied areas
   footprint DRAW [svg FILE]         FILE is from the current directory

@@ -3,7 +3,7 @@
 use super::note::{Note, together};
 use super::{Call, Plan, Step};
 use crate::picture::Drawing;
-use codwalet::{Blocks, Map, People, Proposal, Refusal, Register};
+use codwalet::{Blocks, Coverage, Map, Proposal, Refusal, Register};
 
 /// What came of a line of a plan.
 #[derive(Clone, Debug)]
@@ -24,7 +24,7 @@ pub enum Outcome<'p> {
     /// So many licences are in force now.
     Cancelled(usize),
     Coverage {
-        people: People,
+        coverage: Coverage,
         in_map: bool,
     },
     Blocks {
@@ -74,7 +74,7 @@ impl<'p> State<'p> {
             Call::Grant { licence, .. } => register.grant(*licence).map(|next| Outcome::Granted(self.take(next))),
             Call::Cancel(call_sign) => register.cancel(*call_sign).map(|next| Outcome::Cancelled(self.take(next))),
             Call::Coverage(number) => self.map.map(|map| Outcome::Coverage {
-                people: map.coverage(register, *number).people,
+                coverage: map.coverage(register, *number),
                 in_map: map.look_up(*number).is_some(),
             }),
             Call::Blocks(number) => self.map.map(|map| Outcome::Blocks {

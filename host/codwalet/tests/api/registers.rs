@@ -1,7 +1,7 @@
 //! Registers: grants, cancellations, and registers that are kept as bytes.
 
 use crate::holdings::{MIDDLE, holding, map_of_five};
-use codwalet::{Flaw, GeoBox, Ground, Licence, People, Refusal, Register, limits};
+use codwalet::{Coverage, Flaw, GeoBox, Ground, Licence, People, Refusal, Register, limits};
 
 #[test]
 fn registers_are_values() {
@@ -103,6 +103,22 @@ fn kept_registers_are_read_back() {
     assert_eq!(cut, Err("a saved register has 1,536 bytes, not 1,535".to_string()));
 }
 
+/// A place has call sign, area, kind, an unused byte and the four edges, in 24 bytes.
+#[test]
+fn registers_kept_in_version_1_are_read() {
+    let mut kept = [0; Register::BYTES];
+    kept[..8].copy_from_slice(&[0xE9, 3, 0, 0, 212, 0, 0, 0]);
+    kept[24..][..8].copy_from_slice(&[0xEA, 3, 0, 0, 0, 0, 1, 0]);
+    for (index, edge) in [0i32, 10, 2, 4].iter().enumerate() {
+        kept[32 + 4 * index..][..4].copy_from_slice(&edge.to_le_bytes());
+    }
+    let register = Register::from_bytes(&kept);
+    let mut licences: Vec<Licence> = register.licences().collect();
+    licences.sort();
+    assert_eq!(licences, [Licence::area(1001, 212), Licence::within(1002, MIDDLE)]);
+    assert_eq!(register.to_bytes(), kept);
+}
+
 /// A place has 24 bytes, its call sign first and its kind of ground at byte 6.
 #[test]
 fn any_bytes_are_a_register_and_only_what_is_in_force_counts() {
@@ -116,10 +132,11 @@ fn any_bytes_are_a_register_and_only_what_is_in_force_counts() {
     bytes[24 + 6] = 7;
     let register = Register::from_bytes(&bytes);
     assert_eq!(register.get(2).map(|licence| licence.ground()), Some(Ground::None));
-    assert_eq!((register.len(), map.coverage(&register, 7).people), (2, People(7)));
+    let covered = map.coverage(&register, 7);
+    assert_eq!((register.len(), covered.people, covered.cells), (2, People(7), 2));
     // Every place in force, with whatever ground.
     let crowded = Register::from_bytes(&[0xFF; Register::BYTES]);
-    assert_eq!((crowded.len(), crowded.is_empty(), map.coverage(&crowded, 7).people), (64, false, People(0)));
+    assert_eq!((crowded.len(), crowded.is_empty(), map.coverage(&crowded, 7)), (64, false, Coverage::default()));
     assert_eq!(crowded.cancel(u32::MAX), Ok(Register::empty()));
 }
 

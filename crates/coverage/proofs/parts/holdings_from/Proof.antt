@@ -1,14 +1,15 @@
--- `coverage::parts::holdings_from` meets its contract: one area a turn, with its c. Assumes nothing.
-use Prim.Native.Nat.{_-_}
+-- `coverage::parts::holdings_from` meets its contract: one area a turn, with its c and its sum of cells. Assumes nothing.
+use Prim.Native.Nat.{_*_, _-_}
 use mathlib.Core.Path.{sym, ap, _∙_}
+use native.Mathlib.Omega.{arith}
 use denote.Ref.{now}
 use borrow.Author.Needs.{needs}
+use lib.ListN.{take}
 use Rattle.map.specs.Answers.{areaMeans}
 use Rattle.map.specs.declared.Fault.the-variants.{Extra}
 use Rattle.register.specs.Licences.{inForce}
-use Rattle.coverage.proofs.LookLaws.{rows-within}
+use Rattle.coverage.proofs.CoverLaws.{edges-size, holding-handed}
 use Rattle.coverage.proofs.HoldingLaws.{
-  ReadFrom,
   area-read,
   Gathered,
   gather-starts,
@@ -22,22 +23,33 @@ use Rattle.coverage.proofs.parts.holdings_from.Statement.{statement}
 use Rattle.coverage.proofs.parts.holdings_from.Tie as tie
 
 abbrev Inv-loop : tie.InvT-loop
-Inv-loop map register count first boxes areas₀ before₀ at₀ k₀ areas before at k =
-    Gathered map (inForce (register .places)) count first k at before areas
+Inv-loop map register count first edges end areas₀ stands₀ before₀ at₀ k₀ areas stands before at k =
+    Gathered map (inForce (register .places)) count first k at before areas stands
 
 abbrev μ-loop : tie.MeasureT-loop
-μ-loop map register count first boxes areas₀ before₀ at₀ k₀ areas before at k = count - k
+μ-loop map register count first edges end areas₀ stands₀ before₀ at₀ k₀ areas stands before at k = count - k
 
 boxes-requires : tie.Need-boxes-requires Inv-loop μ-loop
 boxes-requires c κs = search needs
 
+mul-end : tie.Need-mul-end Inv-loop μ-loop
+mul-end c = search needs
+
 loop-holds : tie.Need-loop-holds Inv-loop μ-loop
 loop-holds c =
-    let a = c .before .before .args in
+    let a = c .before .before .before .before .args in
     gather-starts (now (a .map)) (inForce (a .register .places)) (a .count) (a .first)
 
+array-share-prefix-edges : tie.Need-array-share-prefix-edges Inv-loop μ-loop
+array-share-prefix-edges c = search needs
+
+slice-aggregate-area-at : tie.Need-slice-aggregate-area-at Inv-loop μ-loop
+slice-aggregate-area-at c = sym (edges-size (c .before .before .before .before .before .boxes .ensures))
+
 area-at-requires : tie.Need-area-at-requires Inv-loop μ-loop
-area-at-requires c κs = search needs
+area-at-requires c κs =
+    let d = c .before .before .before .before .before .boxes .ensures in
+    omega (arith, edges-size d, d .counts .few)
 
 enum-known-f : tie.Need-enum-known-f Inv-loop μ-loop
 enum-known-f c = search needs
@@ -48,39 +60,34 @@ no-holdings-requires c κs = search needs
 returns : tie.Need-returns Inv-loop μ-loop
 returns c =
     let c4 = c .before .before .before .before in
-    let c6 = c4 .before .before in
-    let a = c6 .before .before .before .args in
+    let c7 = c4 .before .before .before in
+    let c10 = c7 .before .before .before in
+    let a = c10 .before .before .args in
+    let b = c10 .boxes .result in
     let ls = inForce (a .register .places) in
     let f = c .before .before .f .given in
     none-done ls (f .0 .0)
-    (gather-stops (now (a .map)) ls (c6 .loop .inv) (c4 .before .loop-test .taken) (sym (ap areaMeans (f .1)) ∙ c4 .area-at .ensures))
+    (gather-stops (now (a .map)) ls (c7 .loop .inv) (take (4 * b .count) (b .edges)) (c4 .before .before .loop-test .taken)
+    (sym (ap areaMeans (f .1)) ∙ c4 .area-at .ensures))
     (c .no-holdings .ensures)
 
 enum-known-a : tie.Need-enum-known-a Inv-loop μ-loop
 enum-known-a c = search needs
 
--- the area that was read stands in the map
-stands : (c : tie.After-known-told2 Inv-loop μ-loop) →
-    let c5 = c .before .before .before .before .before in
-    ReadFrom (now (c5 .before .before .before .args .map)) (c5 .loop .before) (c5 .loop .at) (c .before .a .given .0 .0)
-stands c =
-    let c3 = c .before .before .before in
-    let c5 = c3 .before .before in
-    let g = c .before .a .given in
-    area-read (now (c5 .before .before .before .args .map)) (c5 .loop .before) (c5 .loop .at) (g .0 .0)
-    (sym (ap areaMeans (g .1)) ∙ c3 .area-at .ensures)
-
-holding-in-requires : tie.Need-holding-in-requires Inv-loop μ-loop
-holding-in-requires c κs =
-    let c6 = c .before .before .before .before .before .before in
-    let w = rows-within (stands c .holds) (stands c .handed) in
-    (w .0, w .1, c6 .boxes .ensures)
+holding-of-requires : tie.Need-holding-of-requires Inv-loop μ-loop
+holding-of-requires c κs = search needs
 
 mul-areas : tie.Need-mul-areas Inv-loop μ-loop
 mul-areas c = search needs
 
 array-set-from-areas : tie.Need-array-set-from-areas Inv-loop μ-loop
 array-set-from-areas c = search needs
+
+mul-stands : tie.Need-mul-stands Inv-loop μ-loop
+mul-stands c = search needs
+
+array-set-from-stands : tie.Need-array-set-from-stands Inv-loop μ-loop
+array-set-from-stands c = search needs
 
 add-k : tie.Need-add-k Inv-loop μ-loop
 add-k c = search needs
@@ -91,17 +98,23 @@ loop-less c = search needs
 loop-again : tie.Need-loop-again Inv-loop μ-loop
 loop-again c =
     let c5 = c .before .before .before .before .before in
-    let start = c5 .before .before .before .before in
+    let c8 = c5 .before .before .before in
+    let c11 = c8 .before .before .before in
+    let start = c11 .before .before in
     let a = start .args in
-    gather-turns (now (a .map)) (inForce (a .register .places)) (c5 .before .loop .inv) (c5 .loop-test .taken) (start .pre)
-    (stands (c .before)) (c .holding-in .ensures)
+    let b = c11 .boxes .result in
+    let g = c .before .before .before .a .given in
+    let read = area-read (now (a .map)) (take (4 * b .count) (b .edges)) (c8 .loop .before) (c8 .loop .at) (g .0 .0)
+    (sym (ap areaMeans (g .1)) ∙ c5 .area-at .ensures) in
+    gather-turns (now (a .map)) (inForce (a .register .places)) (c8 .loop .inv) (c5 .before .before .loop-test .taken) (start .pre)
+    read (holding-handed (c11 .boxes .ensures) (read .holds) (read .handed) (c .holding-of .ensures))
 
 no-holdings-requires-2 : tie.Need-no-holdings-requires-2 Inv-loop μ-loop
 no-holdings-requires-2 c κs = search needs
 
 returns-2 : tie.Need-returns-2 Inv-loop μ-loop
 returns-2 c =
-    let start = c .before .before .before .before .before in
+    let start = c .before .before .before .before .before .before .before in
     let a = start .args in
     gather-ends (now (a .map)) (inForce (a .register .places)) (c .before .before .loop .inv) (c .before .loop-test .left)
     (start .pre) (c .if1 .taken)
@@ -109,7 +122,7 @@ returns-2 c =
 returns-3 : tie.Need-returns-3 Inv-loop μ-loop
 returns-3 c =
     let c2 = c .before .before in
-    let a = c2 .before .before .before .before .args in
+    let a = c2 .before .before .before .before .before .before .args in
     let ls = inForce (a .register .places) in
     none-done ls Extra
     (gather-extra (now (a .map)) ls (c2 .before .loop .inv) (c2 .loop-test .left) (c .before .if1 .left))
@@ -122,15 +135,20 @@ holdings-from-spec =
     Inv-loop
     μ-loop
     boxes-requires
+    mul-end
     loop-holds
+    array-share-prefix-edges
+    slice-aggregate-area-at
     area-at-requires
     enum-known-f
     no-holdings-requires
     returns
     enum-known-a
-    holding-in-requires
+    holding-of-requires
     mul-areas
     array-set-from-areas
+    mul-stands
+    array-set-from-stands
     add-k
     loop-less
     loop-again

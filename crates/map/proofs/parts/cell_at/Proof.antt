@@ -1,13 +1,12 @@
 -- `map::parts::cell_at`: three fields, one after another. Assumes nothing.
 use mathlib.Core.Path.{_≡_, sym, ap, _∙_}
-use native.Mathlib.Omega.{arith}
 use denote.Ref.{now}
 use mir.Syntax.{w32}
 use mir.Facts.{toZ-ofZ}
 use Rattle.map.proofs.FieldLaws.{bind-bad, bind-good}
 use Rattle.map.specs.Reading.{good}
 use Rattle.map.specs.Format.{u32Field, latitudeField, readCell}
-use Rattle.map.specs.Answers.{fieldMeans, fieldValue, coordinateMeans}
+use Rattle.map.specs.Answers.{fieldMeans, coordinateMeans}
 use borrow.Author.Needs.{needs}
 use Rattle.map.proofs.parts.cell_at.Statement.{statement}
 use Rattle.map.proofs.parts.cell_at.Tie as tie
@@ -55,20 +54,20 @@ latitude-read c = sym (ap coordinateMeans (c .before .latitude .given .1)) ∙ c
 
 returns : tie.Need-returns
 unfolding readCell
-returns c = (bind-bad _ (sym (ap fieldMeans (c .before .f .given .1)) ∙ c .before .before .before .u32-field .ensures .0), omega arith)
+returns c = bind-bad _ (sym (ap fieldMeans (c .before .f .given .1)) ∙ c .before .before .before .u32-field .ensures .0)
 
 returns-2 : tie.Need-returns-2
 unfolding readCell
 returns-2 c =
     let latitude = sym (ap coordinateMeans (c .before .f2 .given .1)) ∙ c .before .before .before .i32-field .ensures in
-    (bind-bad _ latitude ∙ bind-good _ (people-read (c .before .before .before .before)), omega arith)
+    bind-bad _ latitude ∙ bind-good _ (people-read (c .before .before .before .before))
 
 returns-3 : tie.Need-returns-3
 unfolding readCell
 returns-3 c =
     let c4 = c .before .before .before .before in
     let longitude = sym (ap coordinateMeans (c .before .f3 .given .1)) ∙ c .before .before .before .i32-field2 .ensures in
-    (bind-bad _ longitude ∙ bind-good _ (latitude-read c4) ∙ bind-good _ (people-read (c4 .before .before .before .before)), omega arith)
+    bind-bad _ longitude ∙ bind-good _ (latitude-read c4) ∙ bind-good _ (people-read (c4 .before .before .before .before))
 
 returns-4 : tie.Need-returns-4
 unfolding readCell
@@ -78,17 +77,15 @@ returns-4 c =
     let p = c8 .before .people .given in
     let x = c4 .before .latitude .given .0 in
     let y = c .before .longitude .given in
-    let longitude = sym (ap coordinateMeans (y .1)) ∙ c .before .before .before .i32-field2 .ensures in (
-      (λ i. good
-          (record {
-            people = p .0 .0;
-            latitude = toZ-ofZ {w = w32} {z = x .0} (record { sfits = c4 .known-told4 .given .0 .1 }) i;
-            longitude = toZ-ofZ {w = w32} {z = y .0 .0} (record { sfits = c .known-told6 .given .0 .1 }) i;
-          })
-          (y .0 .1 .0))
-          ∙ bind-good _ longitude ∙ bind-good _ (latitude-read c4) ∙ bind-good _ (people-read c8),
-      omega (arith, c8 .before .before .before .u32-field .ensures .1, ap fieldValue (p .1)),
-    )
+    let longitude = sym (ap coordinateMeans (y .1)) ∙ c .before .before .before .i32-field2 .ensures in
+    (λ i. good
+    (record {
+      people = p .0 .0;
+      latitude = toZ-ofZ {w = w32} {z = x .0} (record { sfits = c4 .known-told4 .given .0 .1 }) i;
+      longitude = toZ-ofZ {w = w32} {z = y .0 .0} (record { sfits = c .known-told6 .given .0 .1 }) i;
+    })
+    (y .0 .1 .0))
+    ∙ bind-good _ longitude ∙ bind-good _ (latitude-read c4) ∙ bind-good _ (people-read c8)
 
 pub cell-at-spec : {M : Type 1} → statement M
 cell-at-spec =

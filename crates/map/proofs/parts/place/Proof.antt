@@ -29,7 +29,7 @@ unfolding readPlace
 returns-2 c =
     let a = c .before .before .before .args in
     let short = no-room (a .bits + (a .j / 8 + 1)) (length (now (a .s))) (c .before .has-room .ensures) (c .if1 .left) in
-    (leaves _ (bit-past (now (a .s)) (a .bits) (a .j) (omega arith)), omega arith)
+    leaves _ (bit-past (now (a .s)) (a .bits) (a .j) (omega arith))
 
 pub place-spec : {M : Type 1} → statement M
 place-spec = tie.close (tie.spec add-has-room has-room-requires place-at-requires returns returns-2)

@@ -1,10 +1,9 @@
 -- `map::parts::place_at`: a cell where the bit stands, else nothing. Assumes nothing.
 use mathlib.Core.Path.{sym, ap, _∙_}
-use native.Mathlib.Omega.{arith}
 use Rattle.lists.proofs.Tests.{takes, leaves}
 use Rattle.map.proofs.FieldLaws.{bind-bad, bind-good}
 use Rattle.map.specs.Format.{readPlace}
-use Rattle.map.specs.Answers.{cellMeans, cellPeople}
+use Rattle.map.specs.Answers.{cellMeans}
 use borrow.Author.Needs.{needs}
 use Rattle.map.proofs.parts.place_at.Statement.{statement}
 use Rattle.map.proofs.parts.place_at.Tie as tie
@@ -28,7 +27,7 @@ returns c =
     let c4 = c3 .before in
     let c5 = c4 .before in
     let stands = sym (c5 .bit .ensures) ∙ c4 .if1 .taken in
-    (bind-bad _ (sym (ap cellMeans (c .before .f .given .1)) ∙ c3 .cell-at .ensures .0) ∙ takes _ stands, omega arith)
+    bind-bad _ (sym (ap cellMeans (c .before .f .given .1)) ∙ c3 .cell-at .ensures) ∙ takes _ stands
 
 returns-2 : tie.Need-returns-2
 unfolding readPlace
@@ -37,15 +36,11 @@ returns-2 c =
     let c4 = c3 .before in
     let c5 = c4 .before in
     let stands = sym (c5 .bit .ensures) ∙ c4 .if1 .taken in
-    let g = c .before .c .given in
-    let read = c3 .cell-at in (
-      bind-good _ (sym (ap cellMeans (g .1)) ∙ read .ensures .0) ∙ takes _ stands,
-      omega (arith, read .ensures .1, ap cellPeople (g .1)),
-    )
+    bind-good _ (sym (ap cellMeans (c .before .c .given .1)) ∙ c3 .cell-at .ensures) ∙ takes _ stands
 
 returns-3 : tie.Need-returns-3
 unfolding readPlace
-returns-3 c = (leaves _ (sym (c .before .bit .ensures) ∙ c .if1 .left), omega arith)
+returns-3 c = leaves _ (sym (c .before .bit .ensures) ∙ c .if1 .left)
 
 pub place-at-spec : {M : Type 1} → statement M
 place-at-spec =

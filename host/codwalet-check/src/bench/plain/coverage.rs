@@ -3,13 +3,41 @@
 use super::map::Area;
 use super::row::Row;
 use codwalet::raw::{GROUND_AREA, GROUND_BOX, Held, Licence, Register};
+use std::ops::Add;
+
+/// People and cells, counted once for each licence over them.
+#[derive(Clone, Copy, Default)]
+pub struct Count {
+    pub people: u64,
+    pub cells: u64,
+}
+
+impl Count {
+    /// By so many licences.
+    pub fn times(self, licences: u64) -> Count {
+        Count { people: licences * self.people, cells: licences * self.cells }
+    }
+}
+
+impl Add for Count {
+    type Output = Count;
+
+    fn add(self, other: Count) -> Count {
+        Count { people: self.people + other.people, cells: self.cells + other.cells }
+    }
+}
 
 /// The grounds of the licences in force: the areas by number, and the boxes.
 #[derive(Default)]
 pub struct Grounds {
     areas: Vec<u16>,
     boxes: Vec<Licence>,
+    /// The one area in which they count, if no other is asked for.
+    only: Option<u16>,
 }
+
+/// No ground.
+static NONE: Grounds = Grounds { areas: Vec::new(), boxes: Vec::new(), only: None };
 
 impl Grounds {
     /// The grounds of a register.
@@ -18,7 +46,18 @@ impl Grounds {
         Grounds {
             areas: in_force().filter(|place| place.kind == GROUND_AREA).map(|place| place.area).collect(),
             boxes: in_force().filter(|place| place.kind == GROUND_BOX).copied().collect(),
+            only: None,
         }
+    }
+
+    /// The grounds for a question about one area.
+    pub fn only_in(self, number: u16) -> Grounds {
+        Grounds { only: Some(number), ..self }
+    }
+
+    /// The grounds that count in an area.
+    pub fn counting_in(&self, number: u16) -> &Grounds {
+        if self.only.is_none_or(|only| only == number) { self } else { &NONE }
     }
 
     /// How many licences name an area.
@@ -31,9 +70,10 @@ impl Grounds {
         !self.boxes.is_empty()
     }
 
-    /// The people under boxes in a row, once for each box.
-    pub fn people_boxed(&self, row: &Row) -> u64 {
-        self.boxes.iter().filter(|edges| meets(edges, row)).map(|edges| people_within(edges, row)).sum()
+    /// What boxes cover in a row.
+    pub fn boxed(&self, row: &Row) -> Count {
+        let met = self.boxes.iter().filter(|edges| meets(edges, row));
+        met.map(|edges| within(edges, row)).fold(Count::default(), Count::add)
     }
 
     /// Marks the cells of a row that boxes cover.
@@ -65,21 +105,36 @@ fn surrounds(edges: &Licence, row: &Row) -> bool {
         && covers(edges, row.south_to_north.greatest, row.west_to_east.greatest)
 }
 
-/// The people of the cells of a row that a box covers.
-fn people_within(edges: &Licence, row: &Row) -> u64 {
+/// What a box covers in a row. Where it reaches past the row's cells to the south and to the north, as it mostly does,
+/// the longitudes decide.
+fn within(edges: &Licence, row: &Row) -> Count {
     if surrounds(edges, row) {
-        return row.total;
+        return row.all();
     }
-    let points = row.latitudes().iter().zip(row.longitudes());
-    let people = |((&latitude, &longitude), &people)| if covers(edges, latitude, longitude) { people } else { 0 };
-    u64::from(points.zip(row.people()).map(people).sum::<u32>())
+    let longitudes = row.longitudes().iter();
+    if edges.south <= row.south_to_north.least && row.south_to_north.greatest < edges.north {
+        let is_covered = longitudes.map(|&longitude| (edges.west <= longitude) & (longitude < edges.east));
+        return count(is_covered, row.people());
+    }
+    let points = row.latitudes().iter().zip(longitudes);
+    count(points.map(|(&latitude, &longitude)| covers(edges, latitude, longitude)), row.people())
+}
+
+/// The people and the number of covered cells.
+fn count(is_covered: impl Iterator<Item = bool>, people: &[u32]) -> Count {
+    let (mut sum, mut cells) = (0, 0);
+    for (is_covered, &people) in is_covered.zip(people) {
+        sum += if is_covered { people } else { 0 };
+        cells += u32::from(is_covered);
+    }
+    Count { people: sum.into(), cells: cells.into() }
 }
 
 impl Area<'_> {
     /// The area's blocks.
     pub fn blocks(&self) -> Held {
-        let whole = self.covered / (2 * self.population);
-        let rest = self.covered % (2 * self.population);
+        let whole = self.covered.people / (2 * self.population);
+        let rest = self.covered.people % (2 * self.population);
         if 50 * rest >= 99 * self.population {
             return Held { whole: whole + 1, ..Held::default() };
         }

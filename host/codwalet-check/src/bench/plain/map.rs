@@ -1,11 +1,11 @@
 //! The map reader. The cells of a row are taken as one part of the map, by the count of bits that stand.
 
-use super::coverage::Grounds;
+use super::coverage::{Count, Grounds};
 use super::row::{CELL, Row, people_within_limits};
 use codwalet::limits::{AREA_NUMBER, AREAS, LATITUDE, LONGITUDE, PEOPLE, POPULATION, SIDE, WEIGHT};
 use codwalet::raw::{MAP_ENDS, MAP_EXTRA, MAP_LIMIT, MAP_ORDER, MAP_POPULATION};
 
-/// An area of a map, with the people that licences cover in it.
+/// An area of a map, with what licences cover in it.
 pub struct Area<'a> {
     pub number: u16,
     pub weight: u32,
@@ -14,7 +14,7 @@ pub struct Area<'a> {
     /// The map from the area's first row on.
     body: &'a [u8],
     pub population: u64,
-    pub covered: u64,
+    pub covered: Count,
 }
 
 /// What is still to be read of a map.
@@ -57,19 +57,20 @@ impl<'a> Reader<'a> {
         if number <= before {
             return Err(MAP_ORDER);
         }
+        let grounds = grounds.counting_in(number);
         let weight = limited(u32::from_le_bytes(self.field()?), 1, WEIGHT)?;
         let rows = self.side()?;
         let columns = self.side()?;
         let body = self.rest;
-        let (mut population, mut boxed) = (0, 0);
+        let (mut all, mut boxed) = (Count::default(), Count::default());
         for _ in 0..rows {
             let (_, cells) = self.row(columns)?;
             let people = if grounds.has_boxes() { row.take(cells) } else { people_within_limits(cells) };
-            population += people.ok_or(MAP_LIMIT)?;
-            boxed += grounds.people_boxed(row);
+            all = all + Count { people: people.ok_or(MAP_LIMIT)?, cells: cells.len() as u64 };
+            boxed = boxed + grounds.boxed(row);
         }
-        let population = limited(population, 1, POPULATION).map_err(|_| MAP_POPULATION)?;
-        let covered = grounds.naming(number) * population + boxed;
+        let population = limited(all.people, 1, POPULATION).map_err(|_| MAP_POPULATION)?;
+        let covered = all.times(grounds.naming(number)) + boxed;
         Ok(Area { number, weight, rows, columns, body, population, covered })
     }
 }

@@ -24,6 +24,7 @@ pub fn choose(areas: &[Area], draw: u32) -> Result<Proposal, u32> {
     for (given, (area, held)) in proposal.areas.iter_mut().zip(areas.iter().zip(&held)) {
         given.number = u32::from(area.number);
         given.blocks = held.whole;
+        given.cells = area.covered.cells;
     }
     let sizes: Vec<u64> = partial.iter().map(|&area| held[area].size).collect();
     let weights: Vec<u32> = partial.iter().map(|&area| areas[area].weight).collect();

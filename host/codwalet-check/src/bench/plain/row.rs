@@ -1,5 +1,6 @@
 //! The cells of a row: held to their limits, and taken apart to hold boxes against several at once.
 
+use super::coverage::Count;
 use codwalet::limits::{LATITUDE, LONGITUDE, PEOPLE, SIDE};
 
 /// Bytes of a cell.
@@ -56,8 +57,7 @@ pub struct Row {
     people: [u32; SIDE],
     latitudes: [i32; SIDE],
     longitudes: [i32; SIDE],
-    /// The people of all cells.
-    pub total: u64,
+    total: u64,
     /// From the southernmost cell to the northernmost.
     pub south_to_north: Span,
     /// From the westernmost cell to the easternmost.
@@ -89,6 +89,11 @@ impl Row {
     /// Each cell's longitude.
     pub fn longitudes(&self) -> &[i32] {
         &self.longitudes[..self.count]
+    }
+
+    /// What a licence over all cells covers.
+    pub fn all(&self) -> Count {
+        Count { people: self.total, cells: self.count as u64 }
     }
 
     /// Takes the cells of a row apart. Its people, if no field is outside its limits.

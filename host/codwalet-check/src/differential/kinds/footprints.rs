@@ -19,7 +19,7 @@ fn box_of(random: &mut Random, area: &Area, side: i64) -> Ground {
 
 /// The people of an area under a ground.
 fn people_under(area: &Area, ground: Ground) -> u64 {
-    reference::covered(&[Licence { call_sign: 1, ground }], area)
+    reference::covered(&[Licence { call_sign: 1, ground }], area).people
 }
 
 /// As many licences over a ground as leave its area partial, and not enough to be rounded up: at least 3, at most 40.

@@ -108,7 +108,12 @@ fn large_map(random: &mut Random) -> Case {
     Case {
         map: write_map(&areas),
         start: Some(build::register(random, &grounds)),
-        calls: vec![Call::CheckMap, Call::LookUp(areas[count - 1].number), build::footprint_call(random)],
+        calls: vec![
+            Call::CheckMap,
+            Call::LookUp(areas[count - 1].number),
+            Call::Coverage(areas[0].number),
+            build::footprint_call(random),
+        ],
         fill: random.word(),
     }
 }

@@ -36,7 +36,7 @@ impl Engine for Plain {
     }
 
     fn coverage(&self, map: &[u8], current: Register, number: u16) -> Covered {
-        answers::coverage(map, &answers::lines(&current), number)
+        plain::coverage(map, current, number)
     }
 
     fn blocks(&self, map: &[u8], current: Register, number: u16) -> Held {
