@@ -1,6 +1,6 @@
 // Boxes held against points, and against all cells of a row at once (document 01, "Coverage and blocks"). No way in for users.
 ghost use mathlib.Core.Path.{_≡_};
-ghost use mathlib.Core.Bool.{_&&_, _||_};
+ghost use mathlib.Core.Bool.{cond, _&&_, _||_};
 ghost use Prim.Native.Nat.{_≤_};
 ghost use lib.Dec.{leb};
 ghost use lib.IntN.{pos, negℤ};
@@ -42,6 +42,19 @@ pub fn boxes_over(edges: &[i32], latitude: i32, longitude: i32) -> u32
         i += 1;
     }
     count
+}
+
+// How many boxes cover a point; 0 for more edges than a register has.
+pub fn covering(edges: &[i32], latitude: i32, longitude: i32) -> u32
+    ensures { λ r. ⌜
+        (r ≡ cond (leb (length (now (edges .entry))) 256) (boxesOver (now (edges .entry)) latitude longitude) 0)
+        × (r ≤ 64)
+        ⌝ }
+{
+    if edges.len() <= 256 {
+        return boxes_over(edges, latitude, longitude);
+    }
+    0
 }
 
 // The least and the greatest of some coordinates.

@@ -15,7 +15,7 @@ pub struct RowSum {
 }
 
 // The number in the four bytes at a position, lowest byte first.
-pub fn quad(s: &[u8], at: usize) -> u32
+fn quad(s: &[u8], at: usize) -> u32
     requires { ⌜ at + 4 ≤ length (now s) ⌝ }
     ensures { λ r. ⌜ r ≡ numberAt (now (s .entry)) at 4 ⌝ }
 {
@@ -48,7 +48,7 @@ pub fn cells_in(s: &[u8], at: usize, w: usize) -> usize
 }
 
 // Whether the fields of a cell are within their limits.
-pub fn within(people: u32, latitude: i32, longitude: i32) -> bool
+fn within(people: u32, latitude: i32, longitude: i32) -> bool
     ensures { λ r. ⌜ r ≡ cellWithin (record { people = people; latitude = latitude; longitude = longitude }) ⌝ }
 {
     (people <= 1000000)

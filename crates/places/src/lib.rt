@@ -47,7 +47,7 @@ fn show(map: &[u8], bits: usize, j: usize, at: usize, always: u32, edges: &[i32]
         PlaceRead::There(c, next) => Shown {
             people: c.people,
             cell: 1,
-            covered: mark(always + boxes::boxes_over(edges, c.latitude, c.longitude)),
+            covered: mark(always + boxes::covering(edges, c.latitude, c.longitude)),
             next,
         },
     }

@@ -3,10 +3,13 @@ use Prim.Native.Nat.{ℕ, _+_}
 use mathlib.Core.Path.{_≡_, refl, sym, ap, subst, _∙_}
 use denote.Ref.{now}
 use lib.Dec.{ltb}
+use lib.ListN.{length}
 use mir.Syntax.{w32}
 use mir.Facts.{toZ-ofZ}
+use borrow.Author.Tests.{le-leb}
 use borrow.Author.Needs.{needs}
 use Rattle.lists.specs.Sums.{flag}
+use Rattle.lists.proofs.Tests.{takes}
 use Rattle.map.specs.Reading.{Read}
 use Rattle.map.specs.Format.{Place}
 use Rattle.boxes.specs.Boxes.{boxesOver}
@@ -34,8 +37,8 @@ no-cell-requires-2 c κs = search needs
 enum-known-c : tie.Need-enum-known-c
 enum-known-c c = search needs
 
-boxes-over-requires : tie.Need-boxes-over-requires
-boxes-over-requires c κs = search needs
+covering-requires : tie.Need-covering-requires
+covering-requires c κs = search needs
 
 add-mark : tie.Need-add-mark
 add-mark c = search needs
@@ -69,8 +72,9 @@ returns-3 c =
     let g = c5 .c .given in
     let k = g .0 .0 in
     let t = c .before .before .struct-told2 .given in
-    let over : c .before .boxes-over .result ≡ boxesOver edges (k .latitude) (k .longitude) =
-    c .before .boxes-over .ensures .0
+    let over : c .before .covering .result ≡ boxesOver edges (k .latitude) (k .longitude) =
+    c .before .covering .ensures .0
+    ∙ sym (takes {A = ℕ} 0 (le-leb (length edges) 256 (c9 .pre .1)))
     ∙ (λ i. boxesOver edges
     (toZ-ofZ {w = w32} {z = k .latitude} (record { sfits = t .1 .0 .1 }) i)
     (toZ-ofZ {w = w32} {z = k .longitude} (record { sfits = t .1 .1 .0 .1 }) i)) in
@@ -95,7 +99,7 @@ show-spec =
     enum-known-next
     no-cell-requires-2
     enum-known-c
-    boxes-over-requires
+    covering-requires
     add-mark
     mark-requires
     returns
