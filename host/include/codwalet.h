@@ -25,14 +25,17 @@ extern "C" {
 /*
  * The version of this interface. It is another number wherever a struct, a function or a field's meaning is not what it was;
  * codwalet_version() answers the archive's. Version 2 has cells in codwalet_covered and codwalet_given, and so in
- * codwalet_proposal. All other structs are as in version 1, so a register that was kept in version 1 is read as it is.
+ * codwalet_proposal. Version 3 has widths: `narrower_by` of a licence, codwalet_grant_width, and `mhz_pops` of codwalet_covered.
+ * Sizes of structs are as in version 2, and those of a licence and a register as in version 1. A register that was kept in
+ * version 1 or 2 is read as it is: every licence in it is 50 MHz wide.
  */
-#define CODWALET_VERSION 2
+#define CODWALET_VERSION 3
 
 /* Limits: how many there are at most, and the largest that a field may be. */
 #define CODWALET_LIMIT 64                     /* Licences in force: places of a register. */
 #define CODWALET_AREAS 32                     /* Areas of a map. */
 #define CODWALET_PARTIAL_AREAS 20             /* Partial areas of a proposal. */
+#define CODWALET_FULL_WIDTH 50                /* MHz of a licence, from 1; of one that is granted without a width. */
 #define CODWALET_LARGEST_NUMBER 416           /* The number of an area, from 1. */
 #define CODWALET_LARGEST_WEIGHT 65535         /* The weight of an area, from 1. */
 #define CODWALET_LARGEST_SIDE 128             /* Rows, and columns, of an area, from 1. */
@@ -51,7 +54,7 @@ extern "C" {
     X(3, MAP_EXTRA, "bytes follow the map's last area") \
     X(4, MAP_ORDER, "an area's number is not above the one before") \
     X(5, MAP_POPULATION, "an area's population is 0 or above 40,000,000") \
-    X(6, ILL_FORMED, "the call sign is 0, or the ground is ill-formed") \
+    X(6, ILL_FORMED, "the call sign is 0, the ground is ill-formed, or the width is not 1 to 50") \
     X(7, MASK_SHORT, "the mask is shorter than the area's rows x columns") \
     X(8, TABLE_SHORT, "the table is too short") \
     X(9, IN_FORCE, "the call sign is in force already") \
@@ -89,12 +92,16 @@ enum {
     CODWALET_GETS_SHARE = 3
 };
 
-/* A licence, 24 bytes. `unused` is not read. */
+/*
+ * A licence, 24 bytes. `narrower_by` counts for one that stands at a place of a register: its width is CODWALET_FULL_WIDTH less
+ * this, or 0 where it is as much or more, which no grant leaves. A licence with a width of 0 adds nothing to c; its cells, and
+ * those that a footprint starts from, count as ever. Neither grant reads this byte.
+ */
 typedef struct {
     uint32_t call_sign;           /* not 0 */
     uint16_t area;                /* 1 to CODWALET_LARGEST_NUMBER */
     uint8_t kind;                 /* CODWALET_GROUND_.. */
-    uint8_t unused;
+    uint8_t narrower_by;          /* MHz */
     int32_t south;                /* south < north, both within +-CODWALET_LARGEST_LATITUDE */
     int32_t north;
     int32_t west;                 /* west < east, both within +-CODWALET_LARGEST_LONGITUDE */
@@ -124,11 +131,11 @@ typedef struct {
 } codwalet_area;
 
 /*
- * The people and the cells that licences in force cover in an area, 24 bytes. A cell under two licences counts twice, with its people;
- * a cell without people counts among the cells.
+ * What licences in force cover in an area, 24 bytes. Each adds its width x the people of its cells to c, and 1 for each of these
+ * cells to the cells, whatever its width: a cell under two licences counts twice, and one without people counts among the cells.
  */
 typedef struct {
-    uint64_t people;
+    uint64_t mhz_pops;            /* c, in MHz-pops */
     uint64_t cells;
     uint32_t refusal;             /* 0 to 5 */
     uint32_t unused;
@@ -179,8 +186,14 @@ uint32_t codwalet_version(void);
 /* The register with no licence in force. */
 codwalet_register codwalet_empty(void);
 
-/* The register with a licence granted. Refused by 6, 9 or 10, in this order. */
+/* The register with a licence of CODWALET_FULL_WIDTH granted. Refused by 6, 9 or 10, in this order. */
 codwalet_step codwalet_grant(codwalet_register current, codwalet_licence licence);
+
+/*
+ * The register with a licence of so many MHz granted, 1 to CODWALET_FULL_WIDTH. Refused by 6, 9 or 10, in this order; any other
+ * width is refused by 6. Accepted, the place that it takes has `narrower_by` = CODWALET_FULL_WIDTH - width.
+ */
+codwalet_step codwalet_grant_width(codwalet_register current, codwalet_licence licence, uint32_t width);
 
 /* The register with a licence cancelled. Refused by 11. */
 codwalet_step codwalet_cancel(codwalet_register current, uint32_t call_sign);
@@ -191,7 +204,7 @@ uint32_t codwalet_check_map(const uint8_t *map, size_t map_length);
 /* The area with a number. */
 codwalet_area codwalet_look_up(const uint8_t *map, size_t map_length, uint16_t number);
 
-/* The people and the cells covered in the area with a number: zeros if the map lacks it. */
+/* The MHz-pops and the cells covered in the area with a number: zeros if the map lacks it. */
 codwalet_covered codwalet_coverage(const uint8_t *map, size_t map_length, codwalet_register current, uint16_t number);
 
 /* The blocks of the area with a number: zeros if the map lacks it. */

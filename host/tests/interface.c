@@ -16,7 +16,7 @@ SIZE(codwalet_licence, 24);
 FIELD(codwalet_licence, call_sign, 0, 4);
 FIELD(codwalet_licence, area, 4, 2);
 FIELD(codwalet_licence, kind, 6, 1);
-FIELD(codwalet_licence, unused, 7, 1);
+FIELD(codwalet_licence, narrower_by, 7, 1);
 FIELD(codwalet_licence, south, 8, 4);
 FIELD(codwalet_licence, north, 12, 4);
 FIELD(codwalet_licence, west, 16, 4);
@@ -39,7 +39,7 @@ FIELD(codwalet_area, offset, 32, 8);
 FIELD(codwalet_area, length, 40, 8);
 
 SIZE(codwalet_covered, 24);
-FIELD(codwalet_covered, people, 0, 8);
+FIELD(codwalet_covered, mhz_pops, 0, 8);
 FIELD(codwalet_covered, cells, 8, 8);
 FIELD(codwalet_covered, refusal, 16, 4);
 FIELD(codwalet_covered, unused, 20, 4);
@@ -191,6 +191,14 @@ static codwalet_register with(codwalet_register current, codwalet_licence licenc
     return step.next;
 }
 
+/* The same with a licence of so many MHz. */
+static codwalet_register with_width(codwalet_register current, codwalet_licence licence, uint32_t width)
+{
+    codwalet_step step = codwalet_grant_width(current, licence, width);
+    EQUAL(step.refusal, CODWALET_ACCEPTED);
+    return step.next;
+}
+
 /* The register with n licences, call signs 1 to n, each over the area of its call sign's number. */
 static codwalet_register with_areas(uint32_t n)
 {
@@ -213,7 +221,18 @@ static size_t place_of(const codwalet_register *current, uint32_t call_sign)
     return place;
 }
 
-/* A grant adds its licence at a free place, a cancellation frees the place, and no other place changes. */
+/* A grant adds its licence at a free place, with narrower_by by its width, and no other place changes. */
+static void granted_at_a_free_place(codwalet_register before, codwalet_register after, codwalet_licence due)
+{
+    size_t place = place_of(&after, due.call_sign);
+    CHECK(place < CODWALET_LIMIT);
+    EQUAL(before.places[place].call_sign, 0);
+    SAME(after.places[place], due);
+    before.places[place] = due;
+    SAME(after, before);
+}
+
+/* A cancellation frees the place of its licence, which can be granted again. */
 static void grants_and_cancellations(void)
 {
     const codwalet_licence granted[] = {
@@ -230,12 +249,7 @@ static void grants_and_cancellations(void)
         codwalet_register before = current;
         uint32_t call_sign = granted[i].call_sign;
         current = with(before, granted[i]);
-        size_t place = place_of(&current, call_sign);
-        CHECK(place < CODWALET_LIMIT);
-        EQUAL(before.places[place].call_sign, 0);
-        SAME(current.places[place], granted[i]);
-        before.places[place] = granted[i];
-        SAME(current, before);
+        granted_at_a_free_place(before, current, granted[i]);
 
         codwalet_step cancelled = codwalet_cancel(current, call_sign);
         EQUAL(cancelled.refusal, CODWALET_ACCEPTED);
@@ -246,11 +260,23 @@ static void grants_and_cancellations(void)
 }
 
 /* A refused grant or cancellation hands back its register byte for byte, whatever its free places hold. */
+static void refused_width(codwalet_register current, codwalet_licence licence, uint32_t width, uint32_t refusal)
+{
+    codwalet_step step = codwalet_grant_width(current, licence, width);
+    EQUAL(step.refusal, refusal);
+    SAME(step.next, current);
+}
+
+/* With a width it is refused as without one, or by 6 where the width is none. */
 static void refused_grant(codwalet_register current, codwalet_licence licence, uint32_t refusal)
 {
     codwalet_step step = codwalet_grant(current, licence);
     EQUAL(step.refusal, refusal);
     SAME(step.next, current);
+    refused_width(current, licence, 1, refusal);
+    refused_width(current, licence, CODWALET_FULL_WIDTH, refusal);
+    refused_width(current, licence, 0, CODWALET_ILL_FORMED);
+    refused_width(current, licence, CODWALET_FULL_WIDTH + 1, CODWALET_ILL_FORMED);
 }
 
 static void refused_cancellation(codwalet_register current, uint32_t call_sign)
@@ -262,7 +288,7 @@ static void refused_cancellation(codwalet_register current, uint32_t call_sign)
 
 static const struct {
     const char *name;
-    codwalet_licence licence; /* call sign, area, kind, unused, south, north, west, east */
+    codwalet_licence licence; /* call sign, area, kind, narrower_by, south, north, west, east */
 } ill_formed[] = {
     {"call sign 0", {0, 5, 0, 0, 0, 0, 0, 0}},
     {"area 0", {1, 0, 0, 0, 0, 1, 0, 1}},
@@ -283,7 +309,7 @@ static void refusals_of_the_register(void)
 {
     codwalet_register some = with_areas(3);
     for (size_t i = 0; i < CODWALET_LIMIT; i++) {
-        some.places[i].unused = 0xA5;
+        some.places[i].narrower_by = 0xA5;
         if (some.places[i].call_sign == 0) {
             memset(&some.places[i], 0xA5, sizeof some.places[i]);
             some.places[i].call_sign = 0;
@@ -308,6 +334,34 @@ static void refusals_of_the_register(void)
     EQUAL(freed.refusal, CODWALET_ACCEPTED);
     full = with(freed.next, area_licence(CODWALET_LIMIT + 1, 9));
     refused_grant(full, area_licence(17, 17), CODWALET_FULL);
+}
+
+/* Widths that are granted, by what the place then has, and widths that are refused. 306 is 50 in its lowest byte. */
+
+static const struct {
+    uint32_t width;
+    uint8_t narrower_by;
+} widths[] = {{1, 49}, {2, 48}, {20, 30}, {49, 1}, {50, 0}};
+
+static const uint32_t no_widths[] = {0, 51, 255, 256, 306, 65586, INT32_MAX, (uint32_t)INT32_MAX + 51, UINT32_MAX};
+
+/* Neither grant reads narrower_by: whatever a caller leaves there, the width that is named counts, and 50 without one. */
+static void grants_with_widths(void)
+{
+    const uint8_t left[] = {0, 1, 30, 49, 50, 51, 0xA5, UINT8_MAX};
+    const codwalet_licence licences[] = {area_licence(5, 416), box_licence(5, -5, 5, -7, 7)};
+    const codwalet_register some = with_width(with_areas(3), area_licence(4, 9), 7);
+    for (size_t i = 0; i < 2 * sizeof left; i++) {
+        codwalet_licence due = licences[i % 2], passed = due;
+        passed.narrower_by = left[i / 2];
+        granted_at_a_free_place(some, with(some, passed), due);
+        for (size_t j = 0; j < sizeof widths / sizeof widths[0]; j++) {
+            due.narrower_by = widths[j].narrower_by;
+            granted_at_a_free_place(some, with_width(some, passed, widths[j].width), due);
+        }
+        for (size_t j = 0; j < sizeof no_widths / sizeof no_widths[0]; j++)
+            refused_width(some, passed, no_widths[j], CODWALET_ILL_FORMED);
+    }
 }
 
 /* Footprints into buffers that end in guards. */
@@ -440,7 +494,7 @@ static const struct {
     {"population above 40,000,000", CODWALET_MAP_POPULATION, LAST_CELL, 1, 4, 0},
 };
 
-/* Every function that reads a map refuses it by the same number, with nothing else in its answer: no people and no cells. */
+/* Every function that reads a map refuses it by the same number, with nothing else in its answer: no MHz-pops and no cells. */
 static void refused_map(const map_bytes *map, uint32_t refusal)
 {
     codwalet_register current = with(codwalet_empty(), area_licence(1, 3));
@@ -477,21 +531,21 @@ static void refused_maps(void)
 static const struct {
     const char *name;
     int32_t south, north, west, east;
-    uint64_t people, cells;
+    uint64_t mhz_pops, cells;
 } edges[] = {
-    {"box around the point", -1, 1, -301, -299, 6, 1},
-    {"south edge on the point", 0, 1, -301, -299, 6, 1},
+    {"box around the point", -1, 1, -301, -299, 300, 1},
+    {"south edge on the point", 0, 1, -301, -299, 300, 1},
     {"north edge on the point", -1, 0, -301, -299, 0, 0},
-    {"west edge on the point", -1, 1, -300, -299, 6, 1},
+    {"west edge on the point", -1, 1, -300, -299, 300, 1},
     {"east edge on the point", -1, 1, -301, -300, 0, 0},
 };
 
 /* The coverage of an area, every byte of it. */
-static void covered_is(const map_bytes *map, codwalet_register current, uint16_t number, uint64_t people, uint64_t cells)
+static void covered_is(const map_bytes *map, codwalet_register current, uint16_t number, uint64_t mhz_pops, uint64_t cells)
 {
-    codwalet_covered due = {.people = people, .cells = cells};
+    codwalet_covered due = {.mhz_pops = mhz_pops, .cells = cells};
     codwalet_covered covered = codwalet_coverage(map->bytes, map->length, current, number);
-    EQUAL(covered.people, people);
+    EQUAL(covered.mhz_pops, mhz_pops);
     EQUAL(covered.cells, cells);
     SAME(covered, due);
 }
@@ -505,7 +559,7 @@ static void coverage_of_boxes(void)
     for (size_t i = 0; i < sizeof edges / sizeof edges[0]; i++) {
         checked = edges[i].name;
         codwalet_licence box = box_licence(7, edges[i].south, edges[i].north, edges[i].west, edges[i].east);
-        covered_is(&map, with(codwalet_empty(), box), 1, edges[i].people, edges[i].cells);
+        covered_is(&map, with(codwalet_empty(), box), 1, edges[i].mhz_pops, edges[i].cells);
     }
 }
 
@@ -519,15 +573,15 @@ static void coverage_in_force(void)
     add_area(&map, 8, 1, 1, 2, people, 0);
     covered_is(&map, current, 8, 0, 0);
     current = with(current, area_licence(1, 8));
-    covered_is(&map, current, 8, 10, 2);
+    covered_is(&map, current, 8, 500, 2);
     current = with(current, box_licence(2, 0, 1, 0, STEP));
-    covered_is(&map, current, 8, 16, 3);
+    covered_is(&map, current, 8, 800, 3);
     current = with(current, area_licence(3, 9));
-    covered_is(&map, current, 8, 16, 3);
+    covered_is(&map, current, 8, 800, 3);
     current = codwalet_cancel(current, 1).next;
-    covered_is(&map, current, 8, 6, 1);
+    covered_is(&map, current, 8, 300, 1);
     current = with(current, area_licence(1, 8));
-    covered_is(&map, current, 8, 16, 3);
+    covered_is(&map, current, 8, 800, 3);
 
     covered_is(&map, current, 9, 0, 0);
     codwalet_held no_blocks = {0};
@@ -611,10 +665,123 @@ static void cells_beside_people(void)
     SAME(after, before);
 }
 
-/* Holdings: areas 1, 2, .. of two cells. Licences for the area cover all of it, and a box its first cell. */
+/*
+ * Widths: area 8 has cells with 60 and 40 people and one without, from west to east, and weighs 3. A block is 10,000 MHz-pops, M
+ * is 30,000, and one MHz for everybody is 100 MHz-pops.
+ */
+
+static holdings hold_nothing(void)
+{
+    const uint32_t people[3] = {60, 40, 0};
+    holdings h;
+    h.current = codwalet_empty();
+    begin_map(&h.map, 1);
+    add_area(&h.map, 8, 3, 1, 3, people, 0);
+    return h;
+}
+
+static codwalet_licence first_cell(uint32_t call_sign)
+{
+    return box_licence(call_sign, 0, 1, 0, STEP);
+}
+
+/* Coverage, blocks and cells of the proposal of area 8. */
+static void held_is(const holdings *h, uint64_t mhz_pops, uint64_t cells, uint64_t whole, uint64_t value)
+{
+    const codwalet_held due = {.whole = whole, .value = value, .size = value > 0 ? 30000 : 0};
+    covered_is(&h->map, h->current, 8, mhz_pops, cells);
+    codwalet_held held = codwalet_blocks(h->map.bytes, h->map.length, h->current, 8);
+    SAME(held, due);
+    codwalet_proposal proposal = codwalet_propose(h->map.bytes, h->map.length, h->current, 0);
+    EQUAL(proposal.refusal, CODWALET_ACCEPTED);
+    EQUAL(proposal.target, value);
+    EQUAL(proposal.areas[0].blocks, whole);
+    EQUAL(proposal.areas[0].cells, cells);
+}
+
+/* Each licence adds its width x the people of its cells, until it is cancelled; its cells count whatever its width. */
+static void widths_by_hand(void)
+{
+    holdings h = hold_nothing();
+    h.current = with_width(h.current, area_licence(1, 8), 20);
+    held_is(&h, 20 * 100, 3, 0, 3 * 2000);
+    h.current = with_width(h.current, first_cell(2), 1);
+    held_is(&h, 20 * 100 + 60, 4, 0, 3 * 2060);
+    h.current = with(h.current, first_cell(3));
+    held_is(&h, 20 * 100 + 60 + 50 * 60, 5, 0, 3 * 5060);
+    h.current = with_width(h.current, area_licence(4, 8), 50);
+    held_is(&h, 20 * 100 + 60 + 50 * 60 + 50 * 100, 8, 1, 3 * 60);
+    h.current = codwalet_cancel(h.current, 1).next;
+    held_is(&h, 60 + 50 * 60 + 50 * 100, 5, 0, 3 * 8060);
+    h.current = with(h.current, area_licence(1, 8)); /* the same call sign, without a width */
+    held_is(&h, 50 * 100 + 60 + 50 * 60 + 50 * 100, 8, 1, 3 * 3060);
+    for (uint32_t i = 1; i <= 4; i++)
+        h.current = codwalet_cancel(h.current, i).next;
+    held_is(&h, 0, 0, 0, 0);
+}
+
+/* 99 MHz for everybody are 9,900 MHz-pops, 99 in the hundred of a block. Here the first cell has one person, the other 99. */
+static void one_mhz_pop_around_99_in_the_hundred(void)
+{
+    const uint32_t people[2] = {1, 99};
+    const codwalet_held part = {.value = 3 * 9899, .size = 30000}, whole = {.whole = 1};
+    map_bytes map;
+    begin_map(&map, 1);
+    add_area(&map, 8, 3, 1, 2, people, 0);
+    codwalet_register below = with_width(with(codwalet_empty(), area_licence(1, 8)), area_licence(2, 8), 48);
+    below = with_width(below, box_licence(3, 0, 1, STEP, 2 * STEP), 1);
+    covered_is(&map, below, 8, 9899, 5);
+    codwalet_held held = codwalet_blocks(map.bytes, map.length, below, 8);
+    SAME(held, part);
+    for (uint32_t width = 1; width <= 2; width++) {
+        codwalet_register from = with_width(below, first_cell(4), width);
+        covered_is(&map, from, 8, 9899 + width, 6);
+        held = codwalet_blocks(map.bytes, map.length, from, 8);
+        SAME(held, whole);
+    }
+}
+
+/* Ten licences of 5 MHz have the proposal of one of 50, but for the cells. */
+static void slices_of_a_licence(void)
+{
+    holdings one = hold_nothing(), ten = hold_nothing();
+    one.current = with(one.current, first_cell(1));
+    for (uint32_t i = 1; i <= 10; i++)
+        ten.current = with_width(ten.current, first_cell(i), 5);
+    codwalet_proposal due = codwalet_propose(one.map.bytes, one.map.length, one.current, 0);
+    codwalet_proposal proposal = codwalet_propose(ten.map.bytes, ten.map.length, ten.current, 0);
+    EQUAL(due.target, 3 * 50 * 60);
+    EQUAL(due.areas[0].cells, 1);
+    EQUAL(proposal.areas[0].cells, 10);
+    due.areas[0].cells = 10;
+    SAME(proposal, due);
+}
+
+/* What no grant leaves at a place, 50 and above, is a width of 0: it adds nothing to c, and its cells count. 49 is 1 MHz. */
+static void forged_widths(void)
+{
+    const uint8_t forged[] = {50, 51, 0xA5, UINT8_MAX};
+    holdings h = hold_nothing();
+    h.current = with_width(with_width(h.current, area_licence(1, 8), 20), first_cell(2), 30);
+    size_t place = place_of(&h.current, 2);
+    h.current.places[place].narrower_by = 49;
+    held_is(&h, 20 * 100 + 60, 4, 0, 3 * 2060);
+    for (size_t i = 0; i < sizeof forged; i++) {
+        h.current.places[place].narrower_by = forged[i];
+        held_is(&h, 20 * 100, 4, 0, 3 * 2000);
+    }
+    for (size_t i = 0; i < CODWALET_LIMIT; i++) /* all that are in force */
+        h.current.places[i].narrower_by = CODWALET_FULL_WIDTH;
+    held_is(&h, 0, 4, 0, 0);
+    for (size_t i = 0; i < CODWALET_LIMIT; i++) /* as versions 1 and 2 kept it */
+        h.current.places[i].narrower_by = 0;
+    held_is(&h, 50 * 100 + 50 * 60, 4, 0, 3 * 8000);
+}
+
+/* Holdings: areas 1, 2, .. of two cells. Licences for the area cover all of it, and a box its first cell. Each is 50 MHz wide. */
 
 typedef struct {
-    uint32_t weight, population, covered;
+    uint32_t weight, population, covered; /* the last in people, each counted once for each licence */
 } area_held;
 
 static void hold_area(holdings *h, uint32_t number, area_held area)
@@ -661,7 +828,7 @@ static void blocks_of_an_area(void)
     for (size_t i = 0; i < sizeof blocks_due / sizeof blocks_due[0]; i++) {
         checked = blocks_due[i].name;
         holdings h = hold(&blocks_due[i].area, 1);
-        covered_is(&h.map, h.current, 1, blocks_due[i].area.covered, blocks_due[i].cells);
+        covered_is(&h.map, h.current, 1, CODWALET_FULL_WIDTH * blocks_due[i].area.covered, blocks_due[i].cells);
         codwalet_held due = {.whole = blocks_due[i].whole, .value = blocks_due[i].value, .size = blocks_due[i].size};
         codwalet_held held = codwalet_blocks(h.map.bytes, h.map.length, h.current, 1);
         SAME(held, due);
@@ -809,6 +976,24 @@ static void footprints_by_hand(void)
     }
 }
 
+/*
+ * A box of 25 MHz over columns 2 and 3: the share is 25 x 7, and V of both is 700. They are the last ring, the slack is 5, and of
+ * them column 2 is left out. With column 0 under a licence of width 0 the share is the same, the footprint starts from three cells,
+ * V is 1,200 and the slack 10: column 0 is left out too.
+ */
+static void narrow_footprint(void)
+{
+    const uint8_t mask[PLACES] = {0, 0, 0, 1, 0};
+    holdings h = hold_row(0);
+    h.current = with_width(h.current, box_licence(1, 0, 1, 2 * STEP, 4 * STEP), 25);
+    made_footprint(&h, mask, 6, PLACES, 6);
+    short_table(&h, 5, 6);
+    h.current = with_width(h.current, first_cell(2), 1);
+    h.current.places[place_of(&h.current, 2)].narrower_by = CODWALET_FULL_WIDTH;
+    made_footprint(&h, mask, 11, PLACES, 11);
+    short_table(&h, 10, 11);
+}
+
 /* NULL with length 0 is an empty buffer. */
 static void empty_buffers(void)
 {
@@ -835,6 +1020,8 @@ static void empty_buffers(void)
 static void version_and_words(void)
 {
     EQUAL(codwalet_version(), CODWALET_VERSION);
+    EQUAL(CODWALET_VERSION, 3);
+    EQUAL(CODWALET_FULL_WIDTH, 50);
     EQUAL(CODWALET_LARGEST_MASK, 128 * 128);
     for (uint32_t i = CODWALET_ACCEPTED; i <= CODWALET_NOT_ONE_PART; i++) {
         CHECK(codwalet_refusal_words(i) != NULL);
@@ -853,6 +1040,7 @@ static const struct {
     {"version and words", version_and_words},
     {"grants and cancellations", grants_and_cancellations},
     {"refusals of the register", refusals_of_the_register},
+    {"grants with widths", grants_with_widths},
     {"an accepted map", accepted_map},
     {"a map with gaps", map_with_gaps},
     {"refused maps", refused_maps},
@@ -860,10 +1048,15 @@ static const struct {
     {"coverage in force", coverage_in_force},
     {"cells by hand", cells_by_hand},
     {"cells beside people", cells_beside_people},
+    {"widths by hand", widths_by_hand},
+    {"one MHz-pop around 99 in the hundred", one_mhz_pop_around_99_in_the_hundred},
+    {"slices of a licence", slices_of_a_licence},
+    {"forged widths", forged_widths},
     {"blocks of an area", blocks_of_an_area},
     {"proposals by hand", proposals_by_hand},
     {"many partial areas", many_partial_areas},
     {"footprints by hand", footprints_by_hand},
+    {"footprint of a narrow licence", narrow_footprint},
     {"empty buffers", empty_buffers},
 };
 

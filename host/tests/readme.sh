@@ -22,7 +22,8 @@ size_t map_length = fread(map, 1, sizeof map, stdin), table_length = sizeof tabl
 END
     example c | grep -v '^#include'
     cat << 'END'
-printf("kind %u, area %u with %u cells under licences\n", proposal.kind, outline.area, (unsigned)proposal.areas[0].cells);
+printf("kind %u, area %u with %u MHz-pops and %u cells under licences\n", proposal.kind, outline.area,
+       (unsigned)covered.mhz_pops, (unsigned)proposal.areas[0].cells);
 }
 END
 } > "$folder/example.c"
@@ -55,14 +56,16 @@ cp examples/two-areas.csv "$folder"
 grep -q 'footprint 0 svg two-areas.svg *area 212' "$folder/planned"
 grep refused "$folder/planned" && exit 1
 
-# By hand: the box covers 4,070 of the 20,427 people of area 143, in 6 cells; the area is partial alone in C. In Rust the 47 cells of
-# area 212 are held too, and T, 407,000 + 899,700, leaves less white space in its M of 1,799,400 than in the 4,085,400 of area 143.
+# By hand: the box covers 4,070 of the 20,427 people of area 143, in 6 cells, by 20 MHz in C, where the area is partial alone. In Rust
+# it is 50 MHz wide, and 20 MHz over the 5,998 people of area 212, in 47 cells, are held too: T, 407,000 + 359,880, leaves less white
+# space in its M of 1,799,400 than in the 4,085,400 of area 143.
 cd "$folder"
 ./c < region.map > printed
 ./rust >> printed
 diff - printed << 'END'
-kind 3, area 143 with 6 cells under licences
-kind 3, 2 areas, T 1,306,700 weighted MHz-pops
+kind 3, area 143 with 81400 MHz-pops and 6 cells under licences
+area 212: 119,960 MHz-pops
+kind 3, 2 areas, T 766,880 weighted MHz-pops
 area 143: 6 cells under licences
 area 212: 47 cells under licences
 area 212, 1 licence left

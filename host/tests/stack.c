@@ -68,6 +68,11 @@ static void grant(void)
     codwalet_licence licence = {.call_sign = 99, .area = 1, .kind = CODWALET_GROUND_AREA};
     refusal = codwalet_grant(current, licence).refusal;
 }
+static void grant_width(void)
+{
+    codwalet_licence licence = {.call_sign = 99, .area = 1, .kind = CODWALET_GROUND_AREA};
+    refusal = codwalet_grant_width(current, licence, 20).refusal;
+}
 static void cancel(void) { refusal = codwalet_cancel(current, 1).refusal; }
 static void check_map(void) { refusal = codwalet_check_map(map, length); }
 static void look_up(void) { refusal = codwalet_look_up(map, length, 1).refusal; }
@@ -87,6 +92,7 @@ static const struct {
     {"version", version, 32},
     {"empty", empty, 32},
     {"grant", grant, 32},
+    {"grant_width", grant_width, 32},
     {"cancel", cancel, 32},
     {"check_map", check_map, 32},
     {"look_up", look_up, 32},

@@ -20,7 +20,7 @@ use Rattle.abi.specs.declared.Outline.{Outline}
 
 -- the version of the interface: another number wherever a struct, a function or a field's meaning is not what it was
 abbrev pub version : ℕ
-version = 2
+version = 3
 
 -- ---- "When an area is looked up by its number"
 
@@ -45,11 +45,12 @@ flatFound (refused n) = noArea n
 flatFound lacking = noArea 0
 flatFound (has a) = areaFound a
 
--- ---- "Coverage and blocks"; document 02, Paper 1: "Coverage in an area now gives two numbers"
+-- ---- "Coverage and blocks"; document 02, Paper 1: "Coverage in an area now gives two numbers", the first of which is c in MHz-pops since
+-- Paper 4
 
 abbrev pub flatCovered : coverage.Answer CoverageSums → Covered
-flatCovered (coverage.refused n) = record { people = 0; cells = 0; refusal = n; unused = 0 }
-flatCovered (coverage.answers c) = record { people = c .people .0; cells = c .cells .0; refusal = 0; unused = 0 }
+flatCovered (coverage.refused n) = record { «mhz_pops» = 0; cells = 0; refusal = n; unused = 0 }
+flatCovered (coverage.answers c) = record { «mhz_pops» = c .«mhz_pops» .0; cells = c .cells .0; refusal = 0; unused = 0 }
 
 abbrev pub flatHeld : coverage.Answer AreaBlocks → Held
 flatHeld (coverage.refused n) = record { whole = 0; value = 0; size = 0; refusal = n; unused = 0 }

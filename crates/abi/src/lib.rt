@@ -8,6 +8,7 @@ use proposal::AreaAnswer;
 use proposal::Gets;
 use proposal::Proposal;
 use register::FlatLicence;
+use register::Licence;
 use register::Register;
 use register::Step;
 ghost use mathlib.Core.Path.{_≡_};
@@ -15,7 +16,7 @@ ghost use mathlib.Core.List.{map as each};
 ghost use lib.ListN.{length};
 ghost use Rattle.map.specs.Format.{readMap};
 ghost use Rattle.map.specs.Answers.{numberOf};
-ghost use Rattle.register.specs.Licences.{licenceOf, inForce};
+ghost use Rattle.register.specs.Licences.{fullWidth, licenceAtWidth, inForce};
 ghost use Rattle.register.specs.Contracts.{EmptyDone, GrantStep, CancelStep};
 ghost use Rattle.coverage.specs.Answers.{coverageAt, blocksAt};
 ghost use Rattle.proposal.specs.Answer.{proposalOn};
@@ -38,10 +39,10 @@ pub struct FoundArea {
     pub length: u64,
 }
 
-// The people and the cells that licences in force cover in an area.
+// The MHz-pops and the cells that licences in force cover in an area.
 #[repr(C)]
 pub struct Covered {
-    pub people: u64,
+    pub mhz_pops: u64,
     pub cells: u64,
     pub refusal: u32,
     pub unused: u32,
@@ -92,7 +93,7 @@ pub struct Outline {
 pub extern "C" fn codwalet_version() -> u32
     ensures { λ r. ⌜ r ≡ version ⌝ }
 {
-    2
+    3
 }
 
 // The register with no licence in force.
@@ -103,12 +104,20 @@ pub extern "C" fn codwalet_empty() -> Register
     Register::empty()
 }
 
-// The register with a licence granted.
+// The register with a licence granted without a width: it counts as 50 MHz.
 #[no_mangle]
 pub extern "C" fn codwalet_grant(current: Register, licence: FlatLicence) -> Step
-    ensures { λ r. ⌜ GrantStep current (licenceOf licence) r ⌝ }
+    ensures { λ r. ⌜ GrantStep current (licenceAtWidth licence fullWidth) r ⌝ }
 {
-    current.grant_step(licence.licence())
+    current.grant_step(licence.granted(Licence::FULL_WIDTH))
+}
+
+// The register with a licence granted at a width in MHz.
+#[no_mangle]
+pub extern "C" fn codwalet_grant_width(current: Register, licence: FlatLicence, width: u32) -> Step
+    ensures { λ r. ⌜ GrantStep current (licenceAtWidth licence width) r ⌝ }
+{
+    current.grant_step(licence.granted(width))
 }
 
 // The register with a licence cancelled.
@@ -165,23 +174,23 @@ fn not_found(refusal: u32) -> FoundArea
     }
 }
 
-// The people and the cells that licences in force cover in the area with a number.
+// The MHz-pops and the cells that licences in force cover in the area with a number.
 #[no_mangle]
 pub extern "C" fn codwalet_coverage(map: &[u8], current: Register, number: u16) -> Covered
     ensures { λ r. ⌜ r ≡ flatCovered (coverageAt number (inForce (current .places)) (readMap (now (map .entry)))) ⌝ }
 {
     match coverage::coverage(map, current, number) {
         CoverageAnswer::Refused(f) => Covered {
-            people: 0,
+            mhz_pops: 0,
             cells: 0,
             refusal: f.number(),
             unused: 0,
         },
         CoverageAnswer::Covered(sums) => {
-            let people = sums.people;
+            let mhz_pops = sums.mhz_pops;
             let cells = sums.cells;
             Covered {
-                people: people.0,
+                mhz_pops: mhz_pops.0,
                 cells: cells.0,
                 refusal: 0,
                 unused: 0,

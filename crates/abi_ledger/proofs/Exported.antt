@@ -5,33 +5,46 @@ use mathlib.Core.Path.{_≡_, refl, sym, ap, subst, _∙_}
 use mathlib.Core.List.{List, [], _∷_, _++_, map}
 use lib.ListN.{length, take}
 use Rattle.map.specs.Format.{Area}
+use Rattle.register.specs.declared.Ground.{Ground}
 use Rattle.register.specs.declared.Licence.{Licence}
+use Rattle.register.specs.declared.Step.{Step}
+use Rattle.register.specs.declared.Register.{Register}
+use Rattle.register.specs.Licences.{licenceAtWidth}
 use Rattle.register.specs.Contracts.{GrantStep}
 use Rattle.proposal.specs.Answer as proposal
 use Rattle.proposal.specs.Answer.{Proposal, cellsGiven}
 use Rattle.abi.specs.declared.Given.{Given}
 use Rattle.abi.specs.declared.FlatProposal.{FlatProposal}
 use Rattle.abi.specs.Flat.{flatGiven, flatProposal}
-use Rattle.demand3.specs.Calls.{Call, grant, cancel, propose, footprint}
+use Rattle.demand3.specs.Calls.{Width, without, mhz, widthOf, licence, Call, grant, cancel, propose, footprint}
 use Rattle.demand3.specs.Interface.{Saying}
 use Rattle.demand3.specs.Right.{cellsOf, Right, Demand3}
 use Rattle.demand3.proofs.Lawful.{Lawful, Laws, proposing-lawful, outlining-lawful}
 use Rattle.demand3.proofs.Lists.{demand-3}
-use Rattle.abi_ledger.specs.Exported.{function, exported, cellsOut}
+use Rattle.abi_ledger.specs.Exported.{Grants, function, exported, cellsOut}
 
 proposal-number : (a : FlatProposal) (p : Proposal) → a ≡ flatProposal p → a .refusal ≡ p .refused
 unfolding flatProposal
 proposal-number a p e = ap (λ (x : FlatProposal). x .refusal) e
 
+-- a grant of what the caller laid out is one of the licence that it means
+laid-out : {s : ℕ} {g : Ground} (w : Width) (r : Register) (step : Step)
+    → Grants s g (λ given. GrantStep r (licenceAtWidth given (widthOf w)) step) → GrantStep r (licence s g w) step
+laid-out w r step d =
+    subst (λ (x : Licence). GrantStep r x step)
+    (λ i. record { «call_sign» = d .sign i; ground = d .ground i; width = widthOf w }) (d .post)
+
 lawful : (c : Call) → Lawful (function c)
-lawful (grant l) = record {
+lawful (grant s g without) = record {
   asks-nothing = λ map r given. tt;
-  -- a grant of what the caller laid out is one of the licence that it means
-  said = λ {map} {r} {a} {next} d. record {
-    outcome = a;
-    says = refl;
-    holds = subst (λ (x : Licence). GrantStep r x (record { next = next; refusal = a })) (d .means) (d .post);
-  };
+  said = λ {map} {r} {a} {next} d.
+      record { outcome = a; says = refl; holds = laid-out without r (record { next = next; refusal = a }) d };
+  numbered = λ e. e;
+}
+lawful (grant s g (mhz width)) = record {
+  asks-nothing = λ map r given. tt;
+  said = λ {map} {r} {a} {next} d.
+      record { outcome = a; says = refl; holds = laid-out (mhz width) r (record { next = next; refusal = a }) d };
   numbered = λ e. e;
 }
 lawful (cancel s) = record {

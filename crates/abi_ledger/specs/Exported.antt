@@ -2,37 +2,49 @@
 -- ledger's specs/Engine. What lists, runs and demand 3 are stands in `demand3`. Assumes nothing.
 use Prim.Native.Nat.{ℕ}
 use mathlib.Core.Path.{_≡_}
-use Rattle.register.specs.declared.Licence.{Licence}
+use Rattle.register.specs.declared.Ground.{Ground}
 use Rattle.register.specs.declared.FlatLicence.{FlatLicence}
-use Rattle.register.specs.declared.Register.{Register}
-use Rattle.register.specs.Licences.{licenceOf}
+use Rattle.register.specs.Licences.{groundOf}
 use Rattle.proposal.specs.Answer.{AreaCells}
 use Rattle.abi.specs.declared.Given.{Given}
 use Rattle.abi.specs.Flat.{flatProposal, outlineMeans}
 use Rattle.abi.proofs.codwalet_empty.Reads as empty-reads
 use Rattle.abi.proofs.codwalet_grant.Reads as grant-reads
+use Rattle.abi.proofs.codwalet_grant_width.Reads as width-reads
 use Rattle.abi.proofs.codwalet_cancel.Reads as cancel-reads
 use Rattle.abi.proofs.codwalet_propose.Reads as propose-reads
 use Rattle.abi.proofs.codwalet_footprint.Reads as footprint-reads
-use Rattle.demand3.specs.Calls.{Call, grant, cancel, propose, footprint}
+use Rattle.demand3.specs.Calls.{without, mhz, Call, grant, cancel, propose, footprint}
 use Rattle.demand3.specs.Interface.{Function, Interface}
 use Rattle.demand3.specs.Lent.{proposing, outlining}
 
--- what `codwalet_grant(r, given)` ensures, `given` being a licence as the caller laid it out
-pub record Grants (r : Register) (l : Licence) (n : ℕ) (next : Register) : Type 0 where
+-- a call sign and a ground as the caller laid them out, for a grant that ensures `Post`
+pub record Grants (s : ℕ) (g : Ground) (Post : FlatLicence → Type 0) : Type 0 where
   pub given : FlatLicence
-  pub means : licenceOf given ≡ l
-  pub post : grant-reads.Post tt (r, (given, tt)) (record { next = next; refusal = n }) (r, (given, tt))
+  pub sign : given .«call_sign» ≡ s
+  pub ground : groundOf given ≡ g
+  pub post : Post given
 
 -- a grant and a cancellation answer by document 01's number, 0 where they are accepted
 abbrev pub function : (c : Call) → Function c
 -- `codwalet_grant(r, given)`
-function (grant l) = record {
+function (grant s g without) = record {
   Answer = ℕ;
   number = λ n. n;
   Says = λ n m. n ≡ m;
   Asks = λ map r. (given : FlatLicence) → grant-reads.Pre tt (r, (given, tt));
-  Step = λ map r n next. Grants r l n next;
+  Step = λ map r n next.
+      Grants s g (λ given. grant-reads.Post tt (r, (given, tt)) (record { next = next; refusal = n }) (r, (given, tt)));
+}
+-- `codwalet_grant_width(r, given, width)`
+function (grant s g (mhz width)) = record {
+  Answer = ℕ;
+  number = λ n. n;
+  Says = λ n m. n ≡ m;
+  Asks = λ map r. (given : FlatLicence) → width-reads.Pre tt (r, (given, (width, tt)));
+  Step = λ map r n next.
+      Grants s g (λ given.
+      width-reads.Post tt (r, (given, (width, tt))) (record { next = next; refusal = n }) (r, (given, (width, tt))));
 }
 -- `codwalet_cancel(r, s)`
 function (cancel s) = record {

@@ -1,18 +1,18 @@
 -- Laws of a row under boxes. Assumes nothing.
-use Prim.Native.Nat.{ℕ, _+_, _*_, _≤_, _<_}
+use Prim.Native.Nat.{ℕ, zero, suc, _+_, _*_, _≤_, _<_}
 use mathlib.Core.Path.{_≡_, refl, sym, ap, _∙_}
 use mathlib.Core.Bool.{Bool, true, false, not, _&&_, _||_}
 use mathlib.Core.List.{List}
 use native.Mathlib.Omega.{arith}
-use native.Mathlib.Nat.{mul-add, mul-le-mul-left, mul-one, mul-zero}
+use native.Mathlib.Nat.{mul-add, mul-le-mul-left, mul-left-comm, mul-one, mul-zero}
 use native.Mathlib.Numerals.{add-one}
-use lib.Dec.{leb}
+use lib.Dec.{leb, eqb}
 use lib.IntN.{ℤ, pos, negℤ, negsuc}
 use lib.ListN.{getD}
 use lib.Signed.{leZ, ltZ}
-use borrow.Author.Tests.{not-true, leb-true}
+use borrow.Author.Tests.{not-true, leb-true, eqb-true, eqb-false}
 use Rattle.lists.specs.Sums.{flag, count, everyBelow, sumBelow, sumTo}
-use Rattle.lists.proofs.Tests.{both, first-of, second-of}
+use Rattle.lists.proofs.Tests.{by-test, both, first-of, second-of}
 use Rattle.lists.proofs.BelowLaws.{every-below, every-both, sum-next, sum-add, sum-same, sum-most, sum-ones, sum-zero}
 use Rattle.units.specs.Coordinates.{withinZ, isLatitude, isLongitude}
 use Rattle.boxes.specs.Rows.{rowFine, joinTo, lowerZ, higherZ, largerN, SpanOf, FewPeople, cellUnder, columnUnder, UnderBox}
@@ -229,25 +229,49 @@ module _ {ps : List ℕ} {n : ℕ} {test : ℕ → Bool} where
     few-cells = f .few;
   }
 
+-- a number times a sum
+sum-times : (m : ℕ) (f : ℕ → ℕ) (n : ℕ) → m * sumTo f n ≡ sumTo (λ k. m * f k) n
+unfolding sumBelow
+sum-times m f zero = mul-zero m
+sum-times m f (suc n) = mul-add m (sumTo f n) (f n) ∙ ap (λ (s : ℕ). s + m * f n) (sum-times m f n)
+
+-- the widths of the boxes before box i that pass a test, added
+abbrev pub widthTo : (widths : List ℕ) (test : ℕ → Bool) (i : ℕ) → ℕ
+widthTo widths test = sumTo (λ j. getD widths j 0 * flag (test j))
+
+-- a bound on one number more
+pub most-next : (f : ℕ → ℕ) (m i : ℕ) → ((j : ℕ) → j < i → f j ≤ m) → f i ≤ m → (j : ℕ) → j < i + 1 → f j ≤ m
+most-next f m i h l j b =
+    by-test (eqb j i) (λ t. rw (eqb-true j i t) l) (λ t. let n = eqb-false j i t in h j (omega arith))
+
 -- no box yet
-pub under-start : (ps : List ℕ) (n : ℕ) (tests : ℕ → ℕ → Bool)
-    → (0 ≡ sumTo (λ k. getD ps k 0 * count (tests k) 0) n) × (0 ≡ sumTo (λ k. count (tests k) 0) n)
-unfolding count
-under-start ps n tests = (
-  sym (sum-zero (λ k. getD ps k 0 * 0) n (λ k _. mul-zero (getD ps k 0))),
+pub under-start : (widths ps : List ℕ) (n : ℕ) (tests : ℕ → ℕ → Bool)
+    → (0 ≡ sumTo (λ k. held ps k * widthTo widths (tests k) 0) n) × (0 ≡ sumTo (λ k. count (tests k) 0) n)
+unfolding count sumBelow
+under-start widths ps n tests = (
+  sym (sum-zero (λ k. held ps k * 0) n (λ k _. mul-zero (held ps k))),
   sym (sum-zero (λ _. 0) n (λ _ _. refl)),
 )
 
 -- one box more
-pub under-next : (ps : List ℕ) (n i : ℕ) (tests : ℕ → ℕ → Bool) (u : Under) → UnderBox ps (λ k. tests k i) n u
-    → (sumTo (λ k. getD ps k 0 * count (tests k) i) n + u .people ≡ sumTo (λ k. getD ps k 0 * count (tests k) (i + 1)) n)
+pub under-next : (widths ps : List ℕ) (n i : ℕ) (tests : ℕ → ℕ → Bool) (u : Under) → UnderBox ps (λ k. tests k i) n u
+    → (sumTo (λ k. held ps k * widthTo widths (tests k) i) n + getD widths i 0 * u .people
+    ≡ sumTo (λ k. held ps k * widthTo widths (tests k) (i + 1)) n)
     × (sumTo (λ k. count (tests k) i) n + u .cells ≡ sumTo (λ k. count (tests k) (i + 1)) n)
-under-next ps n i tests u h = (
-  ap (λ (m : ℕ). sumTo (λ k. getD ps k 0 * count (tests k) i) n + m) (h .people)
-      ∙ sum-add (λ k. getD ps k 0 * count (tests k) i) (λ k. getD ps k 0 * flag (tests k i))
-      (λ k. getD ps k 0 * count (tests k) (i + 1)) n
-      (λ k _.
-      sym (mul-add (getD ps k 0) (count (tests k) i) (flag (tests k i))) ∙ ap (λ (m : ℕ). getD ps k 0 * m) (count-next (tests k) i)),
-  ap (λ (m : ℕ). sumTo (λ k. count (tests k) i) n + m) (h .cells)
-      ∙ sum-add (λ k. count (tests k) i) (λ k. flag (tests k i)) (λ k. count (tests k) (i + 1)) n (λ k _. count-next (tests k) i),
-)
+under-next widths ps n i tests u h =
+    let width = getD widths i 0 in
+    let here : ℕ → ℕ = λ k. held ps k * flag (tests k i) in (
+      ap (λ (m : ℕ). sumTo (λ k. held ps k * widthTo widths (tests k) i) n + m)
+          (ap (λ (m : ℕ). width * m) (h .people) ∙ sum-times width here n)
+          ∙ sum-add (λ k. held ps k * widthTo widths (tests k) i) (λ k. width * here k)
+          (λ k. held ps k * widthTo widths (tests k) (i + 1)) n (λ k _. box-more (held ps k) (tests k)),
+      ap (λ (m : ℕ). sumTo (λ k. count (tests k) i) n + m) (h .cells)
+          ∙ sum-add (λ k. count (tests k) i) (λ k. flag (tests k i)) (λ k. count (tests k) (i + 1)) n (λ k _. count-next (tests k) i),
+    )
+  where
+    box-more : (p : ℕ) (test : ℕ → Bool)
+        → p * widthTo widths test i + getD widths i 0 * (p * flag (test i)) ≡ p * widthTo widths test (i + 1)
+    box-more p test =
+        ap (λ (m : ℕ). p * widthTo widths test i + m) (mul-left-comm (getD widths i 0) p (flag (test i)))
+        ∙ sym (mul-add p (widthTo widths test i) (getD widths i 0 * flag (test i)))
+        ∙ ap (λ (m : ℕ). p * m) (sum-next (λ j. getD widths j 0 * flag (test j)) i)

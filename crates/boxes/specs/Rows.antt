@@ -10,7 +10,7 @@ use lib.ListN.{getD}
 use lib.Signed.{leZ, ltZ}
 use Rattle.lists.specs.Sums.{flag, everyBelow, sumTo}
 use Rattle.units.specs.Coordinates.{isLatitude, isLongitude}
-use Rattle.boxes.specs.Boxes.{boxCovers, boxesOver}
+use Rattle.boxes.specs.Boxes.{boxCovers, boxesOver, widthOver, Narrow}
 use Rattle.boxes.specs.declared.Span.{Span}
 use Rattle.boxes.specs.declared.Under.{Under}
 use Rattle.boxes.specs.declared.BoxSums.{BoxSums}
@@ -27,17 +27,25 @@ abbrev pub rowFine : (people : List ℕ) (latitudes longitudes : List ℤ) (n : 
 rowFine people latitudes longitudes =
     everyBelow (λ k. cellFine (getD people k 0) (getD latitudes k (pos 0)) (getD longitudes k (pos 0)))
 
--- "Coverage and blocks", c, and document 02, Paper 1, the count of covered cells: of one row under boxes, each cell once for each box
--- that covers it; `ps` has the cells' people. The three sums are told of a row within the map's limits
-pub record RowCounted (edges : List ℤ) (ps : List ℕ) (latitudes longitudes : List ℤ) (n : ℕ) (r : RowCounts) : Type 0 where
+-- document 02, Paper 4: "the sum of width × people covered", and Paper 1, the count of covered cells: of one row under boxes, each cell
+-- once for each box that covers it; `ps` has the cells' people. The three sums are told of a row within the map's limits
+pub record RowCounted
+    (edges : List ℤ)
+    (widths ps : List ℕ)
+    (latitudes longitudes : List ℤ)
+    (n : ℕ)
+    (r : RowCounts)
+    : Type 0 where
   pub fine : r .fine ≡ rowFine ps latitudes longitudes n
   pub people : r .fine ≡ true → r .people ≡ sumTo (λ k. getD ps k 0) n
-  pub boxed-people : r .fine ≡ true
-      → r .«boxed_people» ≡ sumTo (λ k. getD ps k 0 * boxesOver edges (getD latitudes k (pos 0)) (getD longitudes k (pos 0))) n
+  pub boxed-mhz-pops : r .fine ≡ true
+      → r .«boxed_mhz_pops»
+      ≡ sumTo (λ k. getD ps k 0 * widthOver edges widths (getD latitudes k (pos 0)) (getD longitudes k (pos 0))) n
   pub boxed-cells : r .fine ≡ true
       → r .«boxed_cells» ≡ sumTo (λ k. boxesOver edges (getD latitudes k (pos 0)) (getD longitudes k (pos 0))) n
+  pub narrow : r .fine ≡ true → Narrow edges widths
   pub few-people : r .people ≤ 256_000_000
-  pub few-boxed-people : r .«boxed_people» ≤ 64 * 256_000_000
+  pub few-boxed-mhz-pops : r .«boxed_mhz_pops» ≤ 64 * 255 * 256_000_000
   pub few-boxed-cells : r .«boxed_cells» ≤ 64 * 256
 
 -- ---- what the parts of the count give
@@ -82,9 +90,11 @@ pub record UnderBox (ps : List ℕ) (test : ℕ → Bool) (n : ℕ) (u : Under) 
   pub few-people : u .people ≤ 256_000_000
   pub few-cells : u .cells ≤ 256
 
--- the same over all boxes
-pub record UnderBoxes (edges : List ℤ) (ps : List ℕ) (latitudes longitudes : List ℤ) (n : ℕ) (s : BoxSums) : Type 0 where
-  pub people : s .people ≡ sumTo (λ k. getD ps k 0 * boxesOver edges (getD latitudes k (pos 0)) (getD longitudes k (pos 0))) n
+-- the MHz-pops and the cells under all boxes, a cell once for each box
+pub record UnderBoxes (edges : List ℤ) (widths ps : List ℕ) (latitudes longitudes : List ℤ) (n : ℕ) (s : BoxSums) : Type 0 where
+  pub mhz-pops : s .«mhz_pops»
+      ≡ sumTo (λ k. getD ps k 0 * widthOver edges widths (getD latitudes k (pos 0)) (getD longitudes k (pos 0))) n
   pub cells : s .cells ≡ sumTo (λ k. boxesOver edges (getD latitudes k (pos 0)) (getD longitudes k (pos 0))) n
-  pub few-people : s .people ≤ 64 * 256_000_000
+  pub narrow : Narrow edges widths
+  pub few-mhz-pops : s .«mhz_pops» ≤ 64 * 255 * 256_000_000
   pub few-cells : s .cells ≤ 64 * 256

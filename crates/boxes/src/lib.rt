@@ -1,7 +1,7 @@
 // Boxes held against points, and against all cells of a row at once (document 01, "Coverage and blocks"). No way in for users.
 ghost use mathlib.Core.Path.{_≡_};
 ghost use mathlib.Core.Bool.{cond, _&&_, _||_};
-ghost use Prim.Native.Nat.{_≤_};
+ghost use Prim.Native.Nat.{_≤_, _<_};
 ghost use lib.Dec.{leb};
 ghost use lib.IntN.{pos, negℤ};
 ghost use lib.ListN.{length, getD};
@@ -16,6 +16,13 @@ fn one(b: bool) -> u32
     ensures { λ r. ⌜ (r ≡ flag b) × (r ≤ 1) ⌝ }
 {
     if b { 1 } else { 0 }
+}
+
+// A byte's value.
+fn wide(x: u8) -> u64
+    ensures { λ r. ⌜ (r ≡ x) × (r < 256) ⌝ }
+{
+    x as u64
 }
 
 // 1 if the box covers the point, else 0: four tests and no branch, so that a loop over boxes can take several at once.
@@ -69,18 +76,18 @@ struct Under {
     cells: u32,
 }
 
-// What all boxes cover of a row, once for each box.
+// What all boxes cover of a row, once for each box: MHz-pops, which are its width × the people, and cells.
 struct BoxSums {
-    people: u64,
+    mhz_pops: u64,
     cells: u64,
 }
 
-// What a row's cells come to: whether all are within the map's limits and, if so, their people, and under the boxes the people and
+// What a row's cells come to: whether all are within the map's limits and, if so, their people, and under the boxes the MHz-pops and
 // the cells, once for each box.
 pub struct RowCounts {
     pub fine: bool,
     pub people: u32,
-    pub boxed_people: u64,
+    pub boxed_mhz_pops: u64,
     pub boxed_cells: u64,
 }
 
@@ -264,9 +271,10 @@ fn one_box(
     under_columns(west, east, people, longitudes, n)
 }
 
-// What all boxes cover, once for each box; the edges are those of boxes_over.
+// What all boxes cover, once for each box; the edges are those of boxes_over, and box i is widths[i] MHz wide.
 fn under_boxes(
     edges: &[i32],
+    widths: &[u8; 64],
     la: Span,
     lo: Span,
     all: u32,
@@ -279,7 +287,9 @@ fn under_boxes(
         (length (now edges) ≤ 256) × FewPeople (now people) n × SpanOf (now latitudes) n la × SpanOf (now longitudes) n lo
         × (all ≡ sumTo (λ k. getD (now people) k 0) n)
         ⌝ }
-    ensures { λ r. ⌜ UnderBoxes (now (edges .entry)) (now (people .entry)) (now (latitudes .entry)) (now (longitudes .entry)) n r ⌝ }
+    ensures { λ r. ⌜
+        UnderBoxes (now (edges .entry)) (now (widths .entry)) (now (people .entry)) (now (latitudes .entry)) (now (longitudes .entry)) n r
+        ⌝ }
 {
     let m = edges.len() / 4;
     let mut sum: u64 = 0;
@@ -303,24 +313,30 @@ fn under_boxes(
             longitudes,
             n,
         );
-        sum += u.people as u64;
+        sum += wide(widths[i]) * (u.people as u64);
         cells += u.cells as u64;
         i += 1;
     }
-    BoxSums { people: sum, cells }
+    BoxSums {
+        mhz_pops: sum,
+        cells,
+    }
 }
 
-// Counts a row's cells, which are the first n of the three arrays, under boxes; a row with a cell outside the map's limits is only
-// told to be so.
+// Counts a row's cells, which are the first n of the three arrays, under boxes with their widths in MHz; a row with a cell outside the
+// map's limits is only told to be so.
 pub fn count_row(
     edges: &[i32],
+    widths: &[u8; 64],
     people: &[u32; 256],
     latitudes: &[i32; 256],
     longitudes: &[i32; 256],
     n: usize,
 ) -> RowCounts
     requires { ⌜ (n ≤ 256) × (length (now edges) ≤ 256) ⌝ }
-    ensures { λ r. ⌜ RowCounted (now (edges .entry)) (now (people .entry)) (now (latitudes .entry)) (now (longitudes .entry)) n r ⌝ }
+    ensures { λ r. ⌜
+        RowCounted (now (edges .entry)) (now (widths .entry)) (now (people .entry)) (now (latitudes .entry)) (now (longitudes .entry)) n r
+        ⌝ }
 {
     let la = span_of(latitudes, n);
     let lo = span_of(longitudes, n);
@@ -329,16 +345,16 @@ pub fn count_row(
         return RowCounts {
             fine: false,
             people: 0,
-            boxed_people: 0,
+            boxed_mhz_pops: 0,
             boxed_cells: 0,
         };
     }
     let all = sum(people, n);
-    let under = under_boxes(edges, la, lo, all, people, latitudes, longitudes, n);
+    let under = under_boxes(edges, widths, la, lo, all, people, latitudes, longitudes, n);
     RowCounts {
         fine: true,
         people: all,
-        boxed_people: under.people,
+        boxed_mhz_pops: under.mhz_pops,
         boxed_cells: under.cells,
     }
 }

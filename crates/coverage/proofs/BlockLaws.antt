@@ -1,12 +1,12 @@
 -- Laws of the blocks of an area. Assumes nothing.
-use Prim.Native.Nat.{ℕ, _+_, _*_, _/_, _≤_, _<_}
-use mathlib.Core.Path.{_≡_, sym, _∙_}
+use Prim.Native.Nat.{ℕ, _+_, _*_, _/_, _%_, _≤_, _<_}
+use mathlib.Core.Path.{_≡_, sym, ap, _∙_, subst}
 use mathlib.Core.Bool.{Bool, true, false, cond, _&&_}
 use mathlib.Core.List.{List}
 use native.Mathlib.Omega.{arith}
 use native.Mathlib.Nat.{add-zero, mod-lt, mul-le-mul, mul-pos}
 use lib.Dec.{ltb, leb}
-use borrow.Author.Tests.{lt-ltb, le-ltb, leb-true, le-leb, lt-leb}
+use borrow.Author.Tests.{lt-ltb, le-ltb, leb-true, le-leb}
 use Rattle.units.specs.Sums.{capped}
 use Rattle.units.proofs.Laws.{exact}
 use Rattle.lists.specs.Sums.{All}
@@ -73,8 +73,8 @@ blocks-exact {h} w e = e ∙ sym (takes noBlocks (limits-pass h w))
 -- ---- the blocks of an area within the limits
 
 module _ {h : Holding} (w : Limits h) where
-  -- the remainder is below two populations
-  pub remainder-small : remainder h < 2 * h .population .0
+  -- the remainder is below a whole block
+  pub remainder-small : remainder h < 100 * h .population .0
   unfolding remainder
   remainder-small = mod-lt (h .covered .0) (omega (arith, w .peopled))
 
@@ -82,9 +82,8 @@ module _ {h : Holding} (w : Limits h) where
   pub value-small : value h ≤ 262140000000000
   unfolding value
   value-small =
-      let r : remainder h ≤ 80000000 = omega (arith, remainder-small, w .small) in
-      let m : 50 * h .weight ≤ 3276750 = omega (arith, w .light) in
-      omega (arith, mul-le-mul m r)
+      let r : remainder h ≤ 4000000000 = omega (arith, remainder-small, w .small) in
+      omega (arith, mul-le-mul (w .light) r)
 
   pub size-small : size h ≤ 262140000000000
   unfolding size
@@ -103,10 +102,13 @@ module _ {h : Holding} (w : Limits h) where
   unfolding blocksOf
   partial-sized = by-test (partial h) (λ t. simp t (sym (lt-ltb 0 (size h) size-some))) (λ t. simp t)
 
-  -- what the two products give
-  pub value-exact : {v : ℕ} → v ≡ capped (50 * h .weight * remainder h) → v ≡ value h
+  -- what the products give
+  pub mhz-pops-exact : {k n : ℕ} → k ≤ 100 → n ≡ capped (k * h .population .0) → n ≡ k * h .population .0
+  mhz-pops-exact {k} few e = e ∙ exact (k * h .population .0) (omega (arith, mul-le-mul few (w .small)))
+
+  pub value-exact : {v : ℕ} → v ≡ capped (h .weight * remainder h) → v ≡ value h
   unfolding value
-  value-exact e = e ∙ exact (50 * h .weight * remainder h) (omega (arith, value-small))
+  value-exact e = e ∙ exact (h .weight * remainder h) (omega (arith, value-small))
 
   pub size-exact : {m : ℕ} → m ≡ capped (100 * h .weight * h .population .0) → m ≡ size h
   unfolding size
@@ -117,31 +119,36 @@ module _ {h : Holding} (w : Limits h) where
 abbrev pub blocksBy : (whole value size : ℕ) → AreaBlocks
 blocksBy w v m = record { whole = w; value = record { 0 = v }; size = record { 0 = m } }
 
-module _ (h : Holding) where
-  abbrev quotient : ℕ
-  quotient = h .covered .0 / (2 * h .population .0)
+-- by the MHz-pops of a block, and of 99 parts in the hundred of one
+module _ (h : Holding) {block nearly : ℕ} (eb : block ≡ 100 * h .population .0) (en : nearly ≡ 99 * h .population .0) where
+  pub rest-is : h .covered .0 % block ≡ remainder h
+  unfolding remainder
+  rest-is = ap (λ (n : ℕ). h .covered .0 % n) eb
 
-  up : 99 * h .population .0 ≤ 50 * remainder h → roundsUp h ≡ true
+  test-is : leb nearly (h .covered .0 % block) ≡ roundsUp h
   unfolding roundsUp
-  up t = le-leb (99 * h .population .0) (50 * remainder h) t
-
-  not-up : 50 * remainder h < 99 * h .population .0 → roundsUp h ≡ false
-  unfolding roundsUp
-  not-up t = lt-leb (99 * h .population .0) (50 * remainder h) t
+  test-is = λ i. leb (en i) (rest-is i)
 
   -- "one more whole block and nothing partial"
-  pub blocks-up : 99 * h .population .0 ≤ 50 * remainder h → blocksBy (quotient + 1) 0 0 ≡ blocksOf h
+  pub blocks-up : leb nearly (h .covered .0 % block) ≡ true → blocksBy (h .covered .0 / block + 1) 0 0 ≡ blocksOf h
   unfolding blocksOf wholeBlocks partial
-  blocks-up t = simp (up t)
+  blocks-up t = ap (λ (n : ℕ). blocksBy (h .covered .0 / n + 1) 0 0) eb ∙ simp (sym test-is ∙ t)
 
   -- nothing remains
-  pub blocks-even : 50 * remainder h < 99 * h .population .0 → remainder h ≡ 0 → blocksBy quotient 0 0 ≡ blocksOf h
+  pub blocks-even : leb nearly (h .covered .0 % block) ≡ false → h .covered .0 % block ≡ 0
+      → blocksBy (h .covered .0 / block) 0 0 ≡ blocksOf h
   unfolding blocksOf wholeBlocks partial
-  blocks-even t e = simp (not-up t, le-ltb 0 (remainder h) (omega arith), add-zero)
+  blocks-even t e =
+      let none : remainder h ≡ 0 = sym rest-is ∙ e in
+      ap (λ (n : ℕ). blocksBy (h .covered .0 / n) 0 0) eb
+      ∙ simp (sym test-is ∙ t, le-ltb 0 (remainder h) (omega arith), add-zero)
 
   -- "the area is partial, with value v .. and size M"
-  pub blocks-part : {v m : ℕ} → 50 * remainder h < 99 * h .population .0 → (remainder h ≡ 0 → ⊥) → v ≡ value h → m ≡ size h
-      → blocksBy quotient v m ≡ blocksOf h
+  pub blocks-part : {v m : ℕ} → leb nearly (h .covered .0 % block) ≡ false → (h .covered .0 % block ≡ 0 → ⊥) → v ≡ value h → m ≡ size h
+      → blocksBy (h .covered .0 / block) v m ≡ blocksOf h
   unfolding blocksOf wholeBlocks partial
-  blocks-part t n ev em =
-      simp (not-up t, lt-ltb 0 (remainder h) (omega arith), add-zero) (λ i. blocksBy quotient (ev i) (em i))
+  blocks-part {v} {m} t n ev em =
+      let some : 0 < remainder h = subst (λ (k : ℕ). 0 < k) rest-is (omega (arith, n)) in
+      ap (λ (k : ℕ). blocksBy (h .covered .0 / k) v m) eb
+      ∙ simp (sym test-is ∙ t, lt-ltb 0 (remainder h) some, add-zero)
+      (λ i. blocksBy (h .covered .0 / (100 * h .population .0)) (ev i) (em i))

@@ -31,18 +31,18 @@ use Rattle.coverage.specs.Limits.{noHoldings}
 -- ---- an area that was read, in a map that may yet be refused
 
 -- the area that `b` is handed out for, counted under boxes
-pub record ReadFrom (s : List ℕ) (edges : List ℤ) (before at : ℕ) (b : CountedArea) : Type 0 where
+pub record ReadFrom (s : List ℕ) (edges : List ℤ) (widths : List ℕ) (before at : ℕ) (b : CountedArea) : Type 0 where
   pub area : Area
   pub reads : readArea s before at ≡ good area (b .area .end)
-  pub handed : b ≡ countedArea edges area
+  pub handed : b ≡ countedArea edges widths area
   pub holds : AreaHolds s area
 
-pub area-read : (s : List ℕ) (edges : List ℤ) (before at : ℕ) (b : CountedArea)
-    → good b (b .area .end) ≡ mapRead (countedArea edges) (readArea s before at) → ReadFrom s edges before at b
-area-read s edges before at b q = go (readArea s before at) refl q
+pub area-read : (s : List ℕ) (edges : List ℤ) (widths : List ℕ) (before at : ℕ) (b : CountedArea)
+    → good b (b .area .end) ≡ mapRead (countedArea edges widths) (readArea s before at) → ReadFrom s edges widths before at b
+area-read s edges widths before at b q = go (readArea s before at) refl q
   where
-    go : (r : Read Area) → readArea s before at ≡ r → good b (b .area .end) ≡ mapRead (countedArea edges) r
-        → ReadFrom s edges before at b
+    go : (r : Read Area) → readArea s before at ≡ r → good b (b .area .end) ≡ mapRead (countedArea edges widths) r
+        → ReadFrom s edges widths before at b
     go (bad x) e v = absurd (let z : _≡_ {A = ℕ} 0 1 = cc in omega arith)
     go (good a m) e v =
         let next : m ≡ b .area .end = cc in
@@ -124,11 +124,11 @@ module _ (s : List ℕ) (ls : List Licence) where
   done-more done a (good l e) = ap (λ (m : List Area). good m e) (sym (append-snoc done a l))
 
   module _ {n first k position before : ℕ} {xs : List Holding} {ys : List handed.Area} (w : Gathered n first k position before xs ys) where
-    pub gather-turns : {edges : List ℤ} {b : CountedArea} {x : Holding} → k < n → n ≤ 32
-        → (r : ReadFrom s edges before position b) → x ≡ holdingOf ls (r .area)
+    pub gather-turns : {edges : List ℤ} {widths : List ℕ} {b : CountedArea} {x : Holding} → k < n → n ≤ 32
+        → (r : ReadFrom s edges widths before position b) → x ≡ holdingOf ls (r .area)
         → Gathered n first (k + 1) (b .area .end) (b .area .number) (set xs k x) (set ys k (b .area))
     unfolding readAreas
-    gather-turns {edges} {b} {x} h few r q =
+    gather-turns {edges} {widths} {b} {x} h few r q =
         let a = r .area in
         let size = w .size in
         let more : Area → ℕ → Read (List Area) =
@@ -148,11 +148,11 @@ module _ (s : List ℕ) (ls : List Licence) where
         }
 
     -- a fault of area k refuses the map
-    pub gather-stops : (edges : List ℤ) {x : ℕ} → k < n → bad x ≡ mapRead (countedArea edges) (readArea s before position)
-        → bad x ≡ readRest s n first
+    pub gather-stops : (edges : List ℤ) (widths : List ℕ) {x : ℕ} → k < n
+        → bad x ≡ mapRead (countedArea edges widths) (readArea s before position) → bad x ≡ readRest s n first
     unfolding readRest readAreas
-    gather-stops edges h q =
-        let fault = map-bad (countedArea edges) (readArea s before position) q in
+    gather-stops edges widths h q =
+        let fault = map-bad (countedArea edges widths) (readArea s before position) q in
         sym (ap (λ (r : Read (List Area)). bind r (λ l e. cond (eqb e (length s)) (good l e) (bad 3)))
         (w .left
         ∙ ap (λ (m : ℕ). after (w .done) (readAreas s m before position)) (sub-step n k h)

@@ -4,3 +4,4 @@ pub mod BlockLaws
 pub mod LookLaws
 pub mod HoldingLaws
 pub mod SameLaws
+pub mod FullWidth

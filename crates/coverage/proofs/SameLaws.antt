@@ -16,7 +16,7 @@ use Rattle.coverage.specs.Answers.{ofMap, noSums, coverageAt, noBlocks, 
 module _ (xs ys : List Licence) (same : SameLicences xs ys) where
   -- c and the sum of cells are two such sums
   pub same-sums : (a : Area) → coverageSums xs a ≡ coverageSums ys a
-  same-sums a = λ i. record { people = record { 0 = same (coveredBy a) i }; cells = record { 0 = same (cellsBy a) i } }
+  same-sums a = λ i. record { «mhz_pops» = record { 0 = same (coveredBy a) i }; cells = record { 0 = same (cellsBy a) i } }
 
   pub same-holding : (a : Area) → holdingOf xs a ≡ holdingOf ys a
   same-holding a =
@@ -24,7 +24,7 @@ module _ (xs ys : List Licence) (same : SameLicences xs ys) where
         number = a .head .number;
         weight = a .head .weight;
         population = record { 0 = population (a .grid) };
-        covered = c .people;
+        covered = c .«mhz_pops»;
         cells = c .cells;
       } in
       ap with (same-sums a)

@@ -37,7 +37,7 @@ ofMap number zeros f (bad n) = refused n
 ofMap number zeros f (good areas e) = answers (ofLocated zeros f (locate number areas))
 
 abbrev pub noSums : CoverageSums
-noSums = record { people = record { 0 = 0 }; cells = record { 0 = 0 } }
+noSums = record { «mhz_pops» = record { 0 = 0 }; cells = record { 0 = 0 } }
 
 -- c and the sum of cells of the area with a number
 unfoldable pub coverageAt : (number : ℕ) → List Licence → Read (List Area) → Answer CoverageSums

@@ -1,6 +1,6 @@
--- Document 01, "Coverage and blocks": which cells a licence covers, and c of an area; document 02, Paper 1: its sum of cells.
--- Assumes nothing.
-use Prim.Native.Nat.{ℕ}
+-- Document 01, "Coverage and blocks": which cells a licence covers, and c of an area, which document 02, Paper 4, counts in MHz-pops; and
+-- Paper 1: its sum of cells. Assumes nothing.
+use Prim.Native.Nat.{ℕ, _*_}
 use mathlib.Core.Bool.{Bool, cond}
 use mathlib.Core.List.{List, map}
 use lib.Dec.{eqb}
@@ -26,10 +26,14 @@ peopleUnder l number gap = 0
 peopleUnder l number (cell c) = cond (covers (l .ground) number c) (c .people) 0
 
 -- the people in the cells of an area that one licence covers
-abbrev pub coveredBy : Area → Licence → ℕ
-coveredBy a l = total (total (peopleUnder l (a .head .number))) (a .grid)
+abbrev pub peopleBy : Area → Licence → ℕ
+peopleBy a l = total (total (peopleUnder l (a .head .number))) (a .grid)
 
--- "For an area, c is the sum, over licences in force, of the people in covered cells"
+-- document 02, Paper 4: "width × people covered", of one licence
+abbrev pub coveredBy : Area → Licence → ℕ
+coveredBy a l = l .width * peopleBy a l
+
+-- document 02, Paper 4: "For an area, c becomes the sum of width × people covered", over licences in force
 abbrev pub coverage : List Licence → Area → ℕ
 coverage licences a = total (coveredBy a) licences
 
@@ -43,13 +47,15 @@ cellUnder l number (cell c) = cond (covers (l .ground) number c) 1 0
 abbrev pub cellsBy : Area → Licence → ℕ
 cellsBy a l = total (total (cellUnder l (a .head .number))) (a .grid)
 
--- document 02, Paper 1: "and a cell under two licences counts twice": the sum of cells of an area, over licences in force
+-- document 02, Paper 1: "and a cell under two licences counts twice", whatever their widths: the sum of cells of an area, over licences
+-- in force
 abbrev pub sumOfCells : List Licence → Area → ℕ
 sumOfCells licences a = total (cellsBy a) licences
 
--- document 02, Paper 1: "Coverage in an area now gives two numbers: people, as before, and the count of covered cells"
+-- document 02, Paper 1: "Coverage in an area now gives two numbers: people, as before, and the count of covered cells"; Paper 4:
+-- "Coverage .. give this c in the place of people"
 abbrev pub coverageSums : List Licence → Area → CoverageSums
-coverageSums licences a = record { people = record { 0 = coverage licences a }; cells = record { 0 = sumOfCells licences a } }
+coverageSums licences a = record { «mhz_pops» = record { 0 = coverage licences a }; cells = record { 0 = sumOfCells licences a } }
 
 -- an area with its c and its sum of cells: what its blocks and the proposal are made of
 abbrev pub holdingOf : List Licence → Area → Holding

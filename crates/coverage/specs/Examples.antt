@@ -10,6 +10,7 @@ use Rattle.map.specs.Format.{Place, gap, cell, Area}
 use Rattle.map.specs.Answers.{locate}
 use Rattle.register.specs.declared.Ground.the-variants as ground
 use Rattle.register.specs.declared.Licence.{Licence}
+use Rattle.register.specs.Licences.{fullLicence}
 use Rattle.coverage.specs.declared.Holding.{Holding}
 use Rattle.coverage.specs.declared.AreaBlocks.{AreaBlocks}
 use Rattle.coverage.specs.declared.CoverageSums.{CoverageSums}
@@ -25,24 +26,27 @@ pub data BlocksRow : Type 0 where
 
 abbrev pub blocksRows : List BlocksRow
 blocksRows =
-    -- 50 × r is 99 × pop at c 198, and below it at c 197
-    holds 100 1 198 1 0 0 ∷
-    holds 100 1 197 0 9_850 10_000 ∷
-    holds 100 1 199 1 0 0 ∷
+    -- r is 99 × pop at c 9,900, and one MHz-pop below it at c 9,899: one person at 1 MHz
+    holds 100 1 9_900 1 0 0 ∷
+    holds 100 1 9_899 0 9_899 10_000 ∷
+    holds 100 1 9_901 1 0 0 ∷
+    -- one person at 50 MHz below it
+    holds 100 1 9_850 0 9_850 10_000 ∷
     -- no remainder, and the least one
     holds 100 1 0 0 0 0 ∷
-    holds 100 1 1 0 50 10_000 ∷
-    holds 100 1 200 1 0 0 ∷
-    holds 100 1 201 1 50 10_000 ∷
+    holds 100 1 1 0 1 10_000 ∷
+    holds 100 1 9_999 1 0 0 ∷
+    holds 100 1 10_000 1 0 0 ∷
+    holds 100 1 10_001 1 1 10_000 ∷
     -- above a whole block
-    holds 100 1 397 1 9_850 10_000 ∷
-    holds 100 1 398 2 0 0 ∷
+    holds 100 1 19_899 1 9_899 10_000 ∷
+    holds 100 1 19_900 2 0 0 ∷
     -- the weight counts in v and M only
-    holds 100 3 197 0 29_550 30_000 ∷
-    holds 100 3 198 1 0 0 ∷
+    holds 100 3 9_899 0 29_697 30_000 ∷
+    holds 100 3 9_900 1 0 0 ∷
     -- the largest area
-    holds 40_000_000 65_535 79_199_999 0 259_518_596_723_250 262_140_000_000_000 ∷
-    holds 40_000_000 65_535 79_200_000 1 0 0 ∷ []
+    holds 40_000_000 65_535 3_959_999_999 0 259_518_599_934_465 262_140_000_000_000 ∷
+    holds 40_000_000 65_535 3_960_000_000 1 0 0 ∷ []
 
 abbrev held : (population weight covered : ℕ) → Holding
 held p w c = record { number = 5; weight = w; population = record { 0 = p }; covered = record { 0 = c }; cells = record { 0 = 0 } }
@@ -74,41 +78,52 @@ five = record {
   end = 60;
 }
 
--- a licence for an area, and one for a box by its south, north, west and east
+-- a licence for an area, and one for a box by its south, north, west and east, each 50 MHz wide
 abbrev ofArea : ℕ → Licence
-ofArea n = record { «call_sign» = 1; ground = ground.Area n }
+ofArea n = fullLicence 1 (ground.Area n)
 
 abbrev ofBox : (south north west east : ℤ) → Licence
-ofBox s n w e = record { «call_sign» = 1; ground = ground.Box (record { south = s; north = n; west = w; east = e }) }
+ofBox s n w e = fullLicence 1 (ground.Box (record { south = s; north = n; west = w; east = e }))
+
+-- the same licence at another width
+abbrev wide : ℕ → Licence → Licence
+wide w l = record { «call_sign» = l .«call_sign»; ground = l .ground; width = w }
 
 -- the licences in force, c and the sum of cells
 pub data CoverRow : Type 0 where
-  covered : List Licence → (people cells : ℕ) → CoverRow
+  covered : List Licence → (mhz-pops cells : ℕ) → CoverRow
 
 abbrev pub coverRows : List CoverRow
 coverRows =
     covered [] 0 0 ∷
     -- every cell, the first row, and the cell without people
-    covered (ofBox (negsuc 1) (pos 1) (pos 0) (pos 2) ∷ []) 17 4 ∷
-    covered (ofBox (pos 0) (pos 1) (pos 0) (pos 2) ∷ []) 14 2 ∷
+    covered (ofBox (negsuc 1) (pos 1) (pos 0) (pos 2) ∷ []) 850 4 ∷
+    covered (ofBox (pos 0) (pos 1) (pos 0) (pos 2) ∷ []) 700 2 ∷
     covered (ofBox (negsuc 1) (negsuc 0) (pos 0) (pos 2) ∷ []) 0 1 ∷
     -- a cell on the south edge is covered, one on the north edge is not
-    covered (ofBox (negsuc 0) (pos 0) (pos 0) (pos 2) ∷ []) 3 1 ∷
+    covered (ofBox (negsuc 0) (pos 0) (pos 0) (pos 2) ∷ []) 150 1 ∷
     covered (ofBox (pos 1) (pos 2) (pos 0) (pos 2) ∷ []) 0 0 ∷
     -- a cell on the west edge is covered, one on the east edge is not
-    covered (ofBox (pos 0) (pos 1) (pos 1) (pos 2) ∷ []) 4 1 ∷
-    covered (ofBox (pos 0) (pos 1) (pos 0) (pos 1) ∷ []) 10 1 ∷
+    covered (ofBox (pos 0) (pos 1) (pos 1) (pos 2) ∷ []) 200 1 ∷
+    covered (ofBox (pos 0) (pos 1) (pos 0) (pos 1) ∷ []) 500 1 ∷
     covered (ofBox (pos 0) (pos 1) (negsuc 4) (pos 0) ∷ []) 0 0 ∷
     -- two adjoining boxes share no cell
-    covered (ofBox (pos 0) (pos 1) (pos 0) (pos 1) ∷ ofBox (pos 0) (pos 1) (pos 1) (pos 2) ∷ []) 14 2 ∷
+    covered (ofBox (pos 0) (pos 1) (pos 0) (pos 1) ∷ ofBox (pos 0) (pos 1) (pos 1) (pos 2) ∷ []) 700 2 ∷
     -- two licences on the same cell count it twice
-    covered (ofBox (pos 0) (pos 1) (pos 0) (pos 1) ∷ ofBox (pos 0) (pos 1) (pos 0) (pos 1) ∷ []) 20 2 ∷
-    covered (ofBox (pos 0) (pos 1) (pos 0) (pos 1) ∷ ofBox (pos 0) (pos 1) (pos 0) (pos 2) ∷ []) 24 3 ∷
+    covered (ofBox (pos 0) (pos 1) (pos 0) (pos 1) ∷ ofBox (pos 0) (pos 1) (pos 0) (pos 1) ∷ []) 1_000 2 ∷
+    covered (ofBox (pos 0) (pos 1) (pos 0) (pos 1) ∷ ofBox (pos 0) (pos 1) (pos 0) (pos 2) ∷ []) 1_200 3 ∷
     -- the area's own number, another's, and an area with a box
-    covered (ofArea 5 ∷ []) 17 4 ∷
+    covered (ofArea 5 ∷ []) 850 4 ∷
     covered (ofArea 6 ∷ []) 0 0 ∷
-    covered (ofArea 5 ∷ ofArea 5 ∷ []) 34 8 ∷
-    covered (ofArea 6 ∷ ofArea 5 ∷ ofBox (pos 0) (pos 1) (pos 0) (pos 1) ∷ []) 27 5 ∷ []
+    covered (ofArea 5 ∷ ofArea 5 ∷ []) 1_700 8 ∷
+    covered (ofArea 6 ∷ ofArea 5 ∷ ofBox (pos 0) (pos 1) (pos 0) (pos 1) ∷ []) 1_350 5 ∷
+    -- widths: 20 MHz, 1 MHz, and 0, which no licence that was granted has; a cell counts once for each licence, whatever its width
+    covered (wide 20 (ofArea 5) ∷ []) 340 4 ∷
+    covered (wide 1 (ofBox (pos 0) (pos 1) (pos 0) (pos 1)) ∷ []) 10 1 ∷
+    covered (wide 0 (ofArea 5) ∷ []) 0 4 ∷
+    covered (wide 20 (ofArea 5) ∷ wide 3 (ofBox (pos 0) (pos 1) (pos 0) (pos 1)) ∷ ofArea 5 ∷ []) 1_220 9 ∷
+    -- two slices that make up 50 MHz give the c of one licence
+    covered (wide 35 (ofArea 5) ∷ wide 15 (ofArea 5) ∷ []) 850 8 ∷ []
 
 abbrev pub coverRight : List CoverRow → Bool
 coverRight [] = true
@@ -119,9 +134,9 @@ cover-right = refl
 
 -- ---- answers: the area's number, a number that the map lacks, and a map that is refused
 
-abbrev coverIs : Answer CoverageSums → (people cells : ℕ) → Bool
+abbrev coverIs : Answer CoverageSums → (mhz-pops cells : ℕ) → Bool
 coverIs (refused m) p n = false
-coverIs (answers c) p n = eqb (c .people .0) p && eqb (c .cells .0) n
+coverIs (answers c) p n = eqb (c .«mhz_pops» .0) p && eqb (c .cells .0) n
 
 abbrev coverRefused : Answer CoverageSums → ℕ → Bool
 coverRefused (refused m) n = eqb m n
@@ -138,13 +153,13 @@ refusedBy (answers b) n = false
 abbrev onMap : Read (List Area)
 onMap = good (five ∷ []) 60
 
--- a licence for the area and one for a cell of 10 people: c 27 of 17 people, and 5 cells of 4
+-- a licence for the area and one for a cell of 10 people: c 1,350 of 17 people, and 5 cells of 4
 abbrev lines : List Licence
 lines = ofArea 5 ∷ ofBox (pos 0) (pos 1) (pos 0) (pos 1) ∷ []
 
 abbrev answersRight : Bool
 answersRight =
-    coverIs (coverageAt 5 lines onMap) 27 5 &&
+    coverIs (coverageAt 5 lines onMap) 1_350 5 &&
     coverIs (coverageAt 6 lines onMap) 0 0 &&
     coverRefused (coverageAt 5 lines (bad 2)) 2 &&
     blocksAre (blocksAt 5 lines onMap) 0 1_350 1_700 &&

@@ -3,4 +3,5 @@ pub mod Cover
 pub mod Blocks
 pub mod Answers
 pub mod Limits
+pub mod FullWidth
 pub mod Examples

@@ -1,5 +1,5 @@
-// Document 01, "Coverage and blocks", and document 02, Paper 1: the people and the cells that the licences in force cover in an area,
-// and the blocks they come to. The ways in are coverage and blocks; the module parts serves the crates above.
+// Document 01, "Coverage and blocks", and document 02, Papers 1 and 4: the MHz-pops and the cells that the licences in force cover in an
+// area, and the blocks they come to. The ways in are coverage and blocks; the module parts serves the crates above.
 pub mod parts;
 
 use map::Area;
@@ -8,23 +8,24 @@ use map::Fault;
 use map::parts::CountedArea;
 use map::parts::Counts;
 use map::parts::Sought;
+use register::Naming;
 use register::Register;
 use units::Cells;
+use units::MhzPops;
 use units::People;
 use units::Weighted;
 ghost use mathlib.Core.Path.{_≡_};
-ghost use Prim.Native.Nat.{_≤_};
 ghost use Rattle.map.specs.Format.{readMap};
 ghost use Rattle.register.specs.Licences.{inForce};
-ghost use Rattle.coverage.specs.Limits.{sumsBy, holdingBy, namingOf};
+ghost use Rattle.coverage.specs.Limits.{sumsBy, HoldingDone};
 ghost use Rattle.coverage.specs.Answers.{coverageAt, blocksAt, coverageMeans, blocksMeans};
 
-// An area of a map with c, the people that licences in force cover in it, and its sum of cells, those that they cover.
+// An area of a map with c, the MHz-pops that licences in force cover in it, and its sum of cells, those that they cover.
 pub struct Holding {
     pub number: u16,
     pub weight: u32,
     pub population: People,
-    pub covered: People,
+    pub covered: MhzPops,
     pub cells: Cells,
 }
 
@@ -35,13 +36,14 @@ pub struct AreaBlocks {
     pub size: Weighted,
 }
 
-// The people and the cells that licences in force cover in an area, each cell once for each licence over it.
+// The MHz-pops and the cells that licences in force cover in an area. Each licence over a cell counts its people once for each MHz of its
+// width, and the cell once.
 pub struct CoverageSums {
-    pub people: People,
+    pub mhz_pops: MhzPops,
     pub cells: Cells,
 }
 
-// The people and the cells covered, or why the map is refused.
+// The MHz-pops and the cells covered, or why the map is refused.
 pub enum CoverageAnswer {
     Refused(Fault),
     Covered(CoverageSums),
@@ -68,38 +70,35 @@ impl Holding {
         number: 0,
         weight: 0,
         population: People(0),
-        covered: People(0),
+        covered: MhzPops(0),
         cells: Cells(0),
     };
 }
 
-// c and the sum of cells of an area by what one walk counted: always licences have the whole area, which count all its people and
-// cells; the boxes of the others count those under them.
-fn sums_of(counts: Counts, always: u32) -> CoverageSums
+// c and the sum of cells of an area by what one walk counted: the licences that always cover it, since they have the whole area, count all
+// its people and cells; the boxes of the others count those under them.
+fn sums_of(counts: Counts, always: Naming) -> CoverageSums
     ensures { λ r. ⌜ r ≡ sumsBy always counts ⌝ }
 {
     let people = counts.people;
     let cells = counts.cells;
-    let boxed_people = counts.boxed_people;
+    let boxed_mhz_pops = counts.boxed_mhz_pops;
     let boxed_cells = counts.boxed_cells;
     CoverageSums {
-        people: people.times(always).plus(boxed_people),
-        cells: cells.times(always).plus(boxed_cells),
+        mhz_pops: people.mhz_pops(always.width).plus(boxed_mhz_pops),
+        cells: cells.times(always.licences).plus(boxed_cells),
     }
 }
 
 // An area with its c and its sum of cells.
 fn holding_of(a: CountedArea, register: Register) -> Holding
-    ensures { λ r. ⌜
-        (r ≡ holdingBy (namingOf (inForce (register .places)) (a .area .number)) a)
-        × (namingOf (inForce (register .places)) (a .area .number) ≤ 64)
-        ⌝ }
+    ensures { λ r. ⌜ HoldingDone (inForce (register .places)) a r ⌝ }
 {
     let area = a.area;
     let counts = a.counts;
     let population = area.population;
     let sums = sums_of(counts, register.naming(area.number));
-    let covered = sums.people;
+    let covered = sums.mhz_pops;
     let cells = sums.cells;
     Holding {
         number: area.number,
@@ -116,11 +115,12 @@ pub fn coverage(map: &[u8], register: Register, number: u16) -> CoverageAnswer
 {
     let boxes = register.boxes();
     let edges = boxes.edges;
+    let widths = boxes.widths;
     let end = 4 * boxes.count;
-    match map::parts::find(map, number, &edges[..end]) {
+    match map::parts::find(map, number, &edges[..end], &widths) {
         Sought::Refused(f) => CoverageAnswer::Refused(f),
         Sought::Lacking => CoverageAnswer::Covered(CoverageSums {
-            people: People(0),
+            mhz_pops: MhzPops(0),
             cells: Cells(0),
         }),
         Sought::At(a) => {
@@ -136,8 +136,9 @@ pub fn blocks(map: &[u8], register: Register, number: u16) -> BlocksAnswer
 {
     let boxes = register.boxes();
     let edges = boxes.edges;
+    let widths = boxes.widths;
     let end = 4 * boxes.count;
-    match map::parts::find(map, number, &edges[..end]) {
+    match map::parts::find(map, number, &edges[..end], &widths) {
         Sought::Refused(f) => BlocksAnswer::Refused(f),
         Sought::Lacking => BlocksAnswer::Held(AreaBlocks {
             whole: 0,

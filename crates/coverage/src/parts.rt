@@ -8,6 +8,7 @@ use map::Fault;
 use map::fields::Field;
 use map::parts::AreaRead;
 use register::Register;
+use units::MhzPops;
 use units::People;
 use units::Weighted;
 ghost use mathlib.Core.Path.{_≡_};
@@ -53,23 +54,25 @@ pub fn blocks_of(h: Holding) -> AreaBlocks
     }
 }
 
-// The blocks of an area within the limits.
+// The blocks of an area within the limits: a block is 100 MHz over all its people, and 99 of them round up.
 fn blocks_within(h: Holding) -> AreaBlocks
     requires { ⌜ Limits h ⌝ }
     ensures { λ r. ⌜ r ≡ blocksOf h ⌝ }
 {
     let population = h.population;
     let covered = h.covered;
-    let whole = covered.0 / (2 * population.0);
-    let rest = covered.0 % (2 * population.0);
-    if 99 * population.0 <= 50 * rest {
+    let block = population.mhz_pops(100);
+    let nearly = population.mhz_pops(99);
+    let whole = covered.0 / block.0;
+    let rest = MhzPops(covered.0 % block.0);
+    if nearly.at_most(rest) {
         return AreaBlocks {
             whole: whole + 1,
             value: Weighted(0),
             size: Weighted(0),
         };
     }
-    if rest == 0 {
+    if rest.0 == 0 {
         return AreaBlocks {
             whole,
             value: Weighted(0),
@@ -78,7 +81,7 @@ fn blocks_within(h: Holding) -> AreaBlocks
     }
     AreaBlocks {
         whole,
-        value: People(rest).weighted(50, h.weight),
+        value: rest.weighted(h.weight),
         size: population.weighted(100, h.weight),
     }
 }
@@ -112,6 +115,7 @@ fn holdings_from(map: &[u8], register: Register, count: usize, first: usize) -> 
 {
     let boxes = register.boxes();
     let edges = boxes.edges;
+    let widths = boxes.widths;
     let end = 4 * boxes.count;
     let mut areas = [Holding::NONE; 32];
     let mut stands = [NO_AREA; 32];
@@ -119,7 +123,7 @@ fn holdings_from(map: &[u8], register: Register, count: usize, first: usize) -> 
     let mut at = first;
     let mut k: usize = 0;
     while k < count {
-        match map::parts::area_at(map, before, at, &edges[..end]) {
+        match map::parts::area_at(map, before, at, &edges[..end], &widths) {
             AreaRead::Bad(f) => {
                 return no_holdings(f);
             }

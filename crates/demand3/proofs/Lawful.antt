@@ -12,13 +12,13 @@ use Rattle.register.specs.Contracts.{EmptyDone, GrantStep, CancelStep}
 use Rattle.proposal.specs.Answer.{Proposal, proposalOn}
 use Rattle.footprint.specs.Footprint.{footprintOn}
 use Rattle.footprint.specs.Contracts.{Reply, Leaves}
-use Rattle.demand3.specs.Calls.{Call, grant, cancel, propose, footprint, Outlined, Outcome, number}
+use Rattle.demand3.specs.Calls.{licence, Call, grant, cancel, propose, footprint, Outlined, Outcome, number}
 use Rattle.demand3.specs.Interface.{Function, Saying, Interface}
 use Rattle.demand3.specs.Lent.{Where, OnMap, onMap, proposing, OnBuffers, onBuffers, outlining}
 
 -- what a call does, by the register that it gets and over any bytes
 abbrev pub Does : (map : List ℕ) → Register → (c : Call) → Outcome c → Register → Type 0
-Does map r (grant l) n next = GrantStep r l (record { next = next; refusal = n })
+Does map r (grant s g w) n next = GrantStep r (licence s g w) (record { next = next; refusal = n })
 Does map r (cancel s) n next = CancelStep r s (record { next = next; refusal = n })
 Does map r (propose draw) p next = (p ≡ proposalOn (readMap map) (inForce (r .places)) draw) × (next ≡ r)
 Does map r (footprint draw mask table) o next =

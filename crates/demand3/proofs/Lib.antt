@@ -3,3 +3,4 @@ pub mod Outlines
 pub mod Lawful
 pub mod Steps
 pub mod Lists
+pub mod FullWidth

@@ -5,6 +5,7 @@ use mathlib.Core.Path.{subst, _∙_}
 use mathlib.Core.List.{List, [], _∷_, _++_}
 use native.Mathlib.Omega.{arith}
 use Rattle.map.specs.Format.{Area, readMap}
+use Rattle.register.specs.declared.Ground.{Ground}
 use Rattle.register.specs.declared.Licence.{Licence}
 use Rattle.register.specs.declared.Register.{Register}
 use Rattle.register.specs.Licences.{inForce}
@@ -13,7 +14,7 @@ use Rattle.register.specs.Sums.{SameLicences, signs}
 use Rattle.register.proofs.Sums.{same-length}
 use Rattle.coverage.specs.Cover.{holdingsOf}
 use Rattle.proposal.specs.Answer.{proposal}
-use Rattle.demand3.specs.Calls.{Call, grant, cancel, propose, Outcome}
+use Rattle.demand3.specs.Calls.{Width, licence, Call, grant, cancel, propose, Outcome}
 use Rattle.demand3.specs.Ledger.{linesAfter, ledger}
 use Rattle.demand3.specs.Interface.{Function, Saying, Interface, Made, calls, Run, done, step}
 use Rattle.demand3.specs.Right.{Right, AsDefined, Sound, Holds, Each, Registers, Demand3}
@@ -58,8 +59,8 @@ each-at P lines (b ∷ before) m later h = each-at P (linesAfter lines (b .call)
 
 -- a right answer says document 01's own outcome: nothing is left open between the two. Of a footprint `Right` says it in full
 module _ (areas : List Area) (lines : List Licence) where
-  pub says-grant : {l : Licence} (f : Function (grant l)) {a : f .Answer} → Saying f a (Right areas lines (grant l)) →
-      f .Says a (grantRule lines l)
+  pub says-grant : {s : ℕ} {g : Ground} {w : Width} (f : Function (grant s g w)) {a : f .Answer} →
+      Saying f a (Right areas lines (grant s g w)) → f .Says a (grantRule lines (licence s g w))
   says-grant f {a} s = subst (f .Says a) (s .holds) (s .says)
 
   pub says-cancel : {k : ℕ} (f : Function (cancel k)) {a : f .Answer} → Saying f a (Right areas lines (cancel k)) →

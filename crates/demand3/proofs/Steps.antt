@@ -19,7 +19,7 @@ use Rattle.register.specs.Licences.{licenceOf, freePlace, inForce, strike}
 use Rattle.register.specs.Rules.{limit, grantRule, cancelRule}
 use Rattle.register.specs.Contracts.{EmptyDone, GrantStep, CancelStep}
 use Rattle.register.specs.Sums.{SameLicences, signs}
-use Rattle.register.proofs.Laws.{sign-is, formed-sign, accepted-formed, accepted-new, accepted-room}
+use Rattle.register.proofs.Laws.{sign-is, accepted-formed, accepted-new, accepted-room}
 use Rattle.register.proofs.Sums.{same-grant, same-cancel, same-strike, release-strike, placed-total, once-added, strike-le}
 use Rattle.coverage.specs.declared.Holding.{Holding}
 use Rattle.coverage.specs.Cover.{holdingOf, holdingsOf}
@@ -31,8 +31,8 @@ use Rattle.proposal.proofs.Theorems.{cellsHeld, shows-cells, refused-by, right}
 use Rattle.footprint.specs.Footprint.{Footprint, footprintOn}
 use Rattle.footprint.specs.Contracts.{Leaves}
 use Rattle.footprint.proofs.SameLaws.{same-footprint}
-use Rattle.demand3.specs.Calls.{Call, grant, cancel, propose, footprint, Outcome, number}
-use Rattle.demand3.specs.Ledger.{linesAfter}
+use Rattle.demand3.specs.Calls.{licence, Call, grant, cancel, propose, footprint, Outcome, number}
+use Rattle.demand3.specs.Ledger.{granted, linesAfter}
 use Rattle.demand3.specs.Right.{ProposalRight, Right, AsDefined, Sound}
 use Rattle.demand3.proofs.Outlines.{footprint-right}
 use Rattle.demand3.proofs.Lawful.{Does}
@@ -44,13 +44,13 @@ Same r lines = SameLicences (inForce (r .places)) lines
 -- ---- a call keeps the register and the ledger together
 
 grant-keeps : (r : Register) (lines : List Licence) (l : Licence) (g : stepped.Step) →
-    GrantStep r l g → Same r lines → Same (g .next) (linesAfter lines (grant l))
+    GrantStep r l g → Same r lines → Same (g .next) (granted lines l)
 grant-keeps r lines l g d same f =
     let e : g .refusal ≡ grantRule lines l = d .number ∙ same-grant (inForce (r .places)) lines same l in
     by-test (eqb (grantRule lines l) 0)
     (λ t.
     let z = eqb-true (grantRule lines l) 0 t in
-    simp t (placed-total (formed-sign l (accepted-formed lines l z)) (d .accepted (e ∙ z)) f ∙ ap (λ n. f l + n) (same f)))
+    simp t (placed-total (accepted-formed lines l z) (d .accepted (e ∙ z)) f ∙ ap (λ n. f l + n) (same f)))
     (λ t. simp (t, d .refused (λ z. eqb-false (grantRule lines l) 0 t (sym e ∙ z))) (same f))
 
 cancel-keeps : (r : Register) (lines : List Licence) (s : ℕ) (k : stepped.Step) →
@@ -65,14 +65,14 @@ cancel-keeps r lines s k d same f =
 
 pub same-step : (map : List ℕ) (r : Register) (lines : List Licence) → Same r lines →
     (c : Call) (o : Outcome c) (next : Register) → Does map r c o next → Same next (linesAfter lines c)
-same-step map r lines same (grant l) n next d = grant-keeps r lines l (record { next = next; refusal = n }) d same
+same-step map r lines same (grant s g w) n next d = grant-keeps r lines (licence s g w) (record { next = next; refusal = n }) d same
 same-step map r lines same (cancel s) n next d = cancel-keeps r lines s (record { next = next; refusal = n }) d same
 same-step map r lines same (propose draw) p next d = subst (λ (x : Register). Same x lines) (sym (d .1)) same
 same-step map r lines same (footprint draw mask table) o next d = subst (λ (x : Register). Same x lines) (sym (d .1)) same
 
 pub refused-keeps : (map : List ℕ) (r : Register) (c : Call) (o : Outcome c) (next : Register) →
     Does map r c o next → (number c o ≡ 0 → ⊥) → next ≡ r
-refused-keeps map r (grant l) n next d z = d .refused z
+refused-keeps map r (grant s g w) n next d z = d .refused z
 refused-keeps map r (cancel s) n next d z = d .refused z
 refused-keeps map r (propose draw) p next d z = d .1
 refused-keeps map r (footprint draw mask table) o next d z = d .1
@@ -101,7 +101,7 @@ same-outline (good areas e) xs lines same draw mask table = same-footprint xs li
 
 pub defined-step : (map : List ℕ) (r : Register) (lines : List Licence) → Same r lines →
     (c : Call) (o : Outcome c) (next : Register) → Does map r c o next → AsDefined (readMap map) lines c o
-defined-step map r lines same (grant l) n next d = d .number ∙ same-grant (inForce (r .places)) lines same l
+defined-step map r lines same (grant s g w) n next d = d .number ∙ same-grant (inForce (r .places)) lines same (licence s g w)
 defined-step map r lines same (cancel s) n next d = d .number ∙ same-cancel (inForce (r .places)) lines same s
 defined-step map r lines same (propose draw) p next d = d .0 ∙ same-proposal (readMap map) (inForce (r .places)) lines same draw
 defined-step map r lines same (footprint draw mask table) o next d =
@@ -133,7 +133,7 @@ proposal-right areas lines draw p e =
 pub right-step : (map : List ℕ) (areas : List Area) (end : ℕ) → readMap map ≡ good areas end →
     (lines : List Licence) (c : Call) (o : Outcome c) → AsDefined (readMap map) lines c o → Right areas lines c o
 unfolding proposalOn footprintOn
-right-step map areas end reads lines (grant l) n d = d
+right-step map areas end reads lines (grant s g w) n d = d
 right-step map areas end reads lines (cancel s) n d = d
 right-step map areas end reads lines (propose draw) p d =
     proposal-right areas lines draw p (d ∙ ap (λ (m : Read (List Area)). proposalOn m lines draw) reads)
@@ -145,7 +145,8 @@ right-step map areas end reads lines (footprint draw mask table) o d =
 -- ---- the ledger's own lines
 
 pub sound-after : (lines : List Licence) (c : Call) → Sound lines → Sound (linesAfter lines c)
-sound-after lines (grant l) p =
+sound-after lines (grant s g w) p =
+    let l = licence s g w in
     by-test (eqb (grantRule lines l) 0)
     (λ t.
     let e = eqb-true (grantRule lines l) 0 t in

@@ -5,11 +5,15 @@ use lib.Dec.{eqb}
 use Rattle.register.specs.declared.Licence.{Licence}
 use Rattle.register.specs.Licences.{strike}
 use Rattle.register.specs.Rules.{grantRule, cancelRule}
-use Rattle.demand3.specs.Calls.{Call, grant, cancel, propose, footprint}
+use Rattle.demand3.specs.Calls.{licence, Call, grant, cancel, propose, footprint}
 
--- "The list of demand 3": an accepted grant adds its line, an accepted cancellation strikes its own, and nothing else changes a line
+-- "The list of demand 3": an accepted grant adds its line, with its width (document 02, Paper 4)
+abbrev pub granted : List Licence → Licence → List Licence
+granted lines l = cond (eqb (grantRule lines l) 0) (l ∷ lines) lines
+
+-- "The list of demand 3": an accepted cancellation strikes its own line, width and all, and nothing but these two changes a line
 abbrev pub linesAfter : List Licence → Call → List Licence
-linesAfter lines (grant l) = cond (eqb (grantRule lines l) 0) (l ∷ lines) lines
+linesAfter lines (grant s g w) = granted lines (licence s g w)
 linesAfter lines (cancel s) = cond (eqb (cancelRule lines s) 0) (strike s lines) lines
 linesAfter lines (propose draw) = lines
 linesAfter lines (footprint draw mask table) = lines

@@ -4,3 +4,4 @@ pub mod Ledger
 pub mod Interface
 pub mod Right
 pub mod Lent
+pub mod FullWidth

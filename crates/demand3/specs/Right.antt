@@ -22,7 +22,7 @@ use Rattle.rounds.specs.Demand as outline
 use Rattle.rounds.specs.Footprint.{places, needed}
 use Rattle.footprint.specs.Footprint.{partArea, coveredCells, shares, sharedIn, footprintBy, footprintOn}
 use Rattle.footprint.specs.Contracts.{Reply, Leaves}
-use Rattle.demand3.specs.Calls.{Call, grant, cancel, propose, footprint, Outcome}
+use Rattle.demand3.specs.Calls.{licence, Call, grant, cancel, propose, footprint, Outcome}
 use Rattle.demand3.specs.Ledger.{linesAfter, ledger}
 use Rattle.demand3.specs.Interface.{Interface, Made, Saying, calls, numberOf, Run, done, step}
 
@@ -82,7 +82,7 @@ pub record FootprintRight (areas : List Area) (lines : List Licence) (draw : ℕ
 
 -- "The list of demand 3": an outcome is right if it is what the ledger answers, by its lines before the call
 abbrev pub Right : List Area → List Licence → (c : Call) → Outcome c → Type 0
-Right areas lines (grant l) n = n ≡ grantRule lines l
+Right areas lines (grant s g w) n = n ≡ grantRule lines (licence s g w)
 Right areas lines (cancel s) n = n ≡ cancelRule lines s
 Right areas lines (propose draw) p = ProposalRight areas lines draw p
 Right areas lines (footprint draw mask table) o = FootprintRight areas lines draw mask table (o .answer) (o .mask) (o .table)
@@ -90,7 +90,7 @@ Right areas lines (footprint draw mask table) o = FootprintRight areas lines dra
 -- over any bytes, whether they are a map or are refused by 1 to 5: the outcome is the one that document 01 defines for the ledger's lines
 -- before the call
 abbrev pub AsDefined : Read (List Area) → List Licence → (c : Call) → Outcome c → Type 0
-AsDefined m lines (grant l) n = n ≡ grantRule lines l
+AsDefined m lines (grant s g w) n = n ≡ grantRule lines (licence s g w)
 AsDefined m lines (cancel s) n = n ≡ cancelRule lines s
 AsDefined m lines (propose draw) p = p ≡ proposalOn m lines draw
 AsDefined m lines (footprint draw mask table) o =

@@ -8,6 +8,7 @@ use Rattle.map.specs.Reading.{Read, bad, good}
 use Rattle.map.specs.Format.{cell, Area}
 use Rattle.register.specs.declared.Ground.the-variants as ground
 use Rattle.register.specs.declared.Licence.{Licence}
+use Rattle.register.specs.Licences.{fullLicence}
 use Rattle.proposal.specs.Answer.{proposalOn}
 use Rattle.footprint.specs.Footprint.{Footprint, footprintOn}
 use Rattle.footprint.specs.Contracts.{Reply, reply, replyOf, maskAfter}
@@ -27,7 +28,7 @@ cellAreas (suc n) later = cellAreas n (record {
 
 abbrev pub areaLicences : (n : ℕ) → List Licence
 areaLicences zero = []
-areaLicences (suc n) = record { «call_sign» = suc n; ground = ground.Area (suc n) } ∷ areaLicences n
+areaLicences (suc n) = fullLicence (suc n) (ground.Area (suc n)) ∷ areaLicences n
 
 -- n licences over columns 2 and 3 of the one row
 abbrev pub boxes : (n : ℕ) → List Licence
@@ -53,7 +54,7 @@ rows =
     -- 12: 21 partial areas, with nothing to lend and with enough
     asks (good (cellAreas 21 []) 0) (areaLicences 21) 0 0 12 (reply 12 0 0) [] ∷
     asks (good (cellAreas 21 []) 0) (areaLicences 21) 1 1 12 (reply 12 0 0) (9 ∷ []) ∷
-    -- 13: the proposal is exact, as nothing is held, or rounded up (37 of the 40 people of a block, beside a whole one)
+    -- 13: the proposal is exact, as nothing is held, or rounded up (1,850 of a block's 2,000 MHz-pops, beside a whole one)
     asks onRow [] 0 0 0 (reply 13 0 0) [] ∷
     asks onRow [] 5 5 0 (reply 13 0 0) (9 ∷ 9 ∷ 9 ∷ 9 ∷ 9 ∷ []) ∷
     asks onRow (boxes 11) 0 0 0 (reply 13 0 0) [] ∷

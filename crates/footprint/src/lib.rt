@@ -133,7 +133,7 @@ fn outline(
         a.columns,
         a.rows,
         a.start,
-        always,
+        always.licences,
         &edges[..end],
         &mut people,
         &mut cells,

@@ -1,5 +1,5 @@
 // Plays a file of cases: maps that are checked and looked up in, calls on one register, and lists of calls that each start from an
-// empty one. They come in up to two blocks of 65,536 bytes.
+// empty one. They come in up to three blocks of 65,536 bytes.
 // `host/run cases --write` writes the cases and, by an implementation of its own, the lines that must come out.
 use coverage::BlocksAnswer;
 use coverage::CoverageAnswer;
@@ -25,8 +25,9 @@ struct Played {
 }
 
 fn main() {
-    let register = play_block(Register::empty());
-    play_block(register);
+    let first = play_block(Register::empty());
+    let second = play_block(first);
+    play_block(second);
 }
 
 // The next block of the file, which may be empty, and the register that it leaves.
@@ -48,8 +49,8 @@ fn play_all(s: &[u8], start: Register) -> Register {
     register
 }
 
-// One case, by its first byte: M a map, G a grant, C a cancellation, E an empty register, P proposals, F footprints, L a list of
-// calls. Anything else ends the block.
+// One case, by its first byte: M a map, G a grant without a width, W a grant with one, C a cancellation, E an empty register,
+// P proposals, F footprints, L a list of calls. Anything else ends the block.
 fn play(s: &[u8], register: Register) -> Played
     requires { ⌜ 0 < length (now s) ⌝ }
     ensures { λ r. ⌜ (0 < r .used) × (r .used ≤ length (now (s .entry))) ⌝ }
@@ -61,7 +62,8 @@ fn play(s: &[u8], register: Register) -> Played
             let used = 1 + map_case(rest);
             Played { used, register }
         }
-        b'G' => grant_case(s, register),
+        b'G' => grant_case(s, 24, register),
+        b'W' => grant_case(s, 28, register),
         b'C' => cancel_case(s, register),
         b'E' => {
             line(b"empty");
@@ -165,26 +167,40 @@ fn sum(s: &[u8]) -> u32 {
     total
 }
 
-// A grant: the call sign; 0 and an area's number, or 1 and the four edges of a box.
-fn grant_case(s: &[u8], register: Register) -> Played
-    requires { ⌜ 0 < length (now s) ⌝ }
+// A grant in so many bytes: the call sign; 0 and an area's number, or 1 and the four edges of a box. Of 28 bytes the last four are
+// the width; of 24 there is none.
+fn grant_case(s: &[u8], used: usize, register: Register) -> Played
+    requires { ⌜ (0 < length (now s)) × (24 ≤ used) ⌝ }
     ensures { λ r. ⌜ (0 < r .used) × (r .used ≤ length (now (s .entry))) ⌝ }
 {
-    if s.len() < 24 {
+    if s.len() < used {
         return Played {
             used: s.len(),
             register,
         };
     }
-    let call_sign = u32_at(s, 1);
-    let ground = ground_at(s);
-    let granted = register.grant(Licence { call_sign, ground });
+    let granted = register.grant(licence_at(s, used));
     let answer = granted.answer;
     print(b"grant", answer.number() as u64);
     let next = granted.next;
     Played {
-        used: 24,
+        used,
         register: next,
+    }
+}
+
+fn licence_at(s: &[u8], used: usize) -> Licence
+    requires { ⌜ 24 ≤ length (now s) ⌝ }
+{
+    let call_sign = u32_at(s, 1);
+    let ground = ground_at(s);
+    if used < 28 {
+        return Licence::full(call_sign, ground);
+    }
+    Licence {
+        call_sign,
+        ground,
+        width: u32_at(s, 24),
     }
 }
 
@@ -268,8 +284,8 @@ fn covered(map: &[u8], register: Register, number: u16) {
     match coverage::coverage(map, register, number) {
         CoverageAnswer::Refused(f) => print(b" refused", f.number() as u64),
         CoverageAnswer::Covered(sums) => {
-            let people = sums.people;
-            print(b" people", people.0);
+            let mhz_pops = sums.mhz_pops;
+            print(b" mhz-pops", mhz_pops.0);
             let cells = sums.cells;
             print(b" cells", cells.0);
         }

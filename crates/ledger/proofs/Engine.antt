@@ -21,7 +21,7 @@ unfolding means
 proposal-number a p h = ap (λ (x : Proposal). x .refused) (h .meaning)
 
 lawful : (c : Call) → Lawful (function c)
-lawful (grant l) = record {
+lawful (grant s g w) = record {
   asks-nothing = λ map r. tt;
   said = λ {map} {r} {a} {next} d. record { outcome = grantNumber a; says = refl; holds = d };
   numbered = λ e. e;

@@ -12,11 +12,12 @@ use Rattle.lists.proofs.SumLaws.{total-append}
 use Rattle.register.specs.declared.Ground.{Ground}
 use Rattle.register.specs.declared.Register.{Register}
 use Rattle.ledger.specs.declared.Next.{Next}
-use Rattle.demand3.specs.Calls.{Call, grant, cancel, propose, footprint}
+use Rattle.demand3.specs.Calls.{without, mhz, Call, grant, cancel, propose, footprint}
 use Rattle.demand3.specs.Interface.{numberOf, Run, done, step}
 use Rattle.ledger.specs.Engine.{engine, function, Made}
 use Rattle.ledger.specs.Played.{
   groundAt,
+  widthAt,
   Item,
   call,
   unknown,
@@ -37,11 +38,15 @@ use Rattle.ledger.proofs.Engine.{engine-demand-3}
 
 module _ (words : List ℕ) (at : ℕ) (mask table : List ℕ) where
   pub item-grant : getD words at 0 ≡ 0 → (g : Ground) → g ≡ groundAt words at
-      → call (grant (record { «call_sign» = getD words (at + 1) 0; ground = g })) ≡ itemAt words at mask table
+      → call (grant (getD words (at + 1) 0) g without) ≡ itemAt words at mask table
   unfolding itemAt
   item-grant k g e =
-      rw (eq-eqb (getD words at 0) 0 k)
-      (ap (λ (x : Ground). call (grant (record { «call_sign» = getD words (at + 1) 0; ground = x }))) e)
+      rw (eq-eqb (getD words at 0) 0 k) (ap (λ (x : Ground). call (grant (getD words (at + 1) 0) x without)) e)
+
+  pub item-width : getD words at 0 ≡ 4 → (g : Ground) → g ≡ groundAt words at
+      → call (grant (getD words (at + 1) 0) g (mhz (widthAt words at))) ≡ itemAt words at mask table
+  unfolding itemAt
+  item-width k g e = rw k (ap (λ (x : Ground). call (grant (getD words (at + 1) 0) x (mhz (widthAt words at)))) e)
 
   pub item-cancel : getD words at 0 ≡ 1 → call (cancel (getD words (at + 1) 0)) ≡ itemAt words at mask table
   unfolding itemAt
@@ -56,10 +61,11 @@ module _ (words : List ℕ) (at : ℕ) (mask table : List ℕ) where
   item-footprint k = rw k
 
   pub item-unknown : (getD words at 0 ≡ 0 → ⊥) → (getD words at 0 ≡ 1 → ⊥) → (getD words at 0 ≡ 2 → ⊥)
-      → (getD words at 0 ≡ 3 → ⊥) → unknown ≡ itemAt words at mask table
+      → (getD words at 0 ≡ 3 → ⊥) → (getD words at 0 ≡ 4 → ⊥) → unknown ≡ itemAt words at mask table
   unfolding itemAt
-  item-unknown a b c d =
-      rw (ne-eqb (getD words at 0) 0 a, ne-eqb (getD words at 0) 1 b, ne-eqb (getD words at 0) 2 c, ne-eqb (getD words at 0) 3 d)
+  item-unknown a b c d e =
+      let word = getD words at 0 in
+      rw (ne-eqb word 0 a, ne-eqb word 1 b, ne-eqb word 2 c, ne-eqb word 3 d, ne-eqb word 4 e)
 
 -- what was done of an item, by the test whether a call was made
 module _ (map : List ℕ) (r : Register) (mask after table entries : List ℕ) (n : Next) where

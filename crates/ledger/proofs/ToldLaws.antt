@@ -27,7 +27,7 @@ use Rattle.ledger.proofs.Engine.{proposal-number}
 -- ---- a call that is lent another table
 
 abbrev lending : List ℕ → Call → Call
-lending t (grant l) = grant l
+lending t (grant s g w) = grant s g w
 lending t (cancel s) = cancel s
 lending t (propose draw) = propose draw
 lending t (footprint draw mask table) = footprint draw mask t
@@ -43,11 +43,12 @@ item-lending words at mask table t =
     by-test (eqb (getD words at 0) 0) (λ a. simp a)
     (λ a. by-test (eqb (getD words at 0) 1) (λ b. simp (a, b))
     (λ b. by-test (eqb (getD words at 0) 2) (λ d. simp (a, b, d))
-    (λ d. by-test (eqb (getD words at 0) 3) (λ e. simp (a, b, d, e)) (λ e. simp (a, b, d, e)))))
+    (λ d. by-test (eqb (getD words at 0) 3) (λ e. simp (a, b, d, e))
+    (λ e. by-test (eqb (getD words at 0) 4) (λ f. simp (a, b, d, e, f)) (λ f. simp (a, b, d, e, f))))))
 
 number-lending : (m : Read (List Area)) (lines : List Licence) (t u : List ℕ) → length t ≡ length u → (c : Call) →
     numberBy m lines (lending t c) ≡ numberBy m lines (lending u c)
-number-lending m lines t u e (grant l) = refl
+number-lending m lines t u e (grant s g w) = refl
 number-lending m lines t u e (cancel s) = refl
 number-lending m lines t u e (propose draw) = refl
 number-lending m lines t u e (footprint draw mask table) =
@@ -55,13 +56,13 @@ number-lending m lines t u e (footprint draw mask table) =
 
 mask-lending : (m : Read (List Area)) (lines : List Licence) (mask t u : List ℕ) → length t ≡ length u → (c : Call) →
     maskBy m lines (lending t c) mask ≡ maskBy m lines (lending u c) mask
-mask-lending m lines mask t u e (grant l) = refl
+mask-lending m lines mask t u e (grant s g w) = refl
 mask-lending m lines mask t u e (cancel s) = refl
 mask-lending m lines mask t u e (propose draw) = refl
 mask-lending m lines mask t u e (footprint draw lent table) = ap (λ (n : ℕ). maskAfter (footprintOn m lines draw (length lent) n) lent) e
 
 lines-lending : (lines : List Licence) (t : List ℕ) (c : Call) → linesAfter lines (lending t c) ≡ linesAfter lines c
-lines-lending lines t (grant l) = refl
+lines-lending lines t (grant s g w) = refl
 lines-lending lines t (cancel s) = refl
 lines-lending lines t (propose draw) = refl
 lines-lending lines t (footprint draw mask table) = refl
@@ -71,7 +72,7 @@ lines-lending lines t (footprint draw mask table) = refl
 module _ (m : Read (List Area)) (lines : List Licence) where
   said-number : (c : Call) (a : function c .Answer) → Saying (function c) a (AsDefined m lines c) →
       function c .number a ≡ numberBy m lines c
-  said-number (grant l) a s = s .says ∙ s .holds
+  said-number (grant k g w) a s = s .says ∙ s .holds
   said-number (cancel k) a s = s .says ∙ s .holds
   said-number (propose draw) a s = proposal-number a (s .outcome) (s .says) ∙ ap (λ p. p .refused) (s .holds)
   said-number (footprint draw mask table) a s =
@@ -79,7 +80,7 @@ module _ (m : Read (List Area)) (lines : List Licence) where
 
   said-mask : (c : Call) (a : function c .Answer) (mask : List ℕ) → Saying (function c) a (AsDefined m lines c) →
       maskLeft c a mask ≡ maskBy m lines c mask
-  said-mask (grant l) a mask s = refl
+  said-mask (grant k g w) a mask s = refl
   said-mask (cancel k) a mask s = refl
   said-mask (propose draw) a mask s = refl
   said-mask (footprint draw lent table) a mask s = ap (λ (o : Outlined Reply). o .mask) (s .says) ∙ s .holds .bytes
@@ -87,14 +88,14 @@ module _ (m : Read (List Area)) (lines : List Licence) where
   -- of a call that is lent the table
   said-table : (table : List ℕ) (c : Call) (a : function c .Answer) → c ≡ lending table c →
       Saying (function c) a (AsDefined m lines c) → length (tableLeft c a table) ≡ length table
-  said-table table (grant l) a e s = refl
+  said-table table (grant k g w) a e s = refl
   said-table table (cancel k) a e s = refl
   said-table table (propose draw) a e s = refl
   said-table table (footprint draw mask entries) a e s =
       ap (λ (o : Outlined Reply). length (o .table)) (s .says) ∙ s .holds .size ∙ ap (λ (c : Call). length (tableOf c)) e
     where
       tableOf : Call → List ℕ
-      tableOf (grant l) = []
+      tableOf (grant s g w) = []
       tableOf (cancel s) = []
       tableOf (propose draw) = []
       tableOf (footprint draw mask table) = table

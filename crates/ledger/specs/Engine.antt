@@ -11,19 +11,19 @@ use Rattle.proposal.specs.Contracts.{refusalNumber, Answers}
 use Rattle.proposal.proofs.propose.Reads as propose-reads
 use Rattle.footprint.specs.Contracts.{means}
 use Rattle.footprint.proofs.footprint.Reads as footprint-reads
-use Rattle.demand3.specs.Calls.{Call, grant, cancel, propose, footprint}
+use Rattle.demand3.specs.Calls.{licence, Call, grant, cancel, propose, footprint}
 use Rattle.demand3.specs.Interface as interface
 use Rattle.demand3.specs.Interface.{Function, Interface}
 use Rattle.demand3.specs.Lent.{proposing, outlining}
 
 abbrev pub function : (c : Call) → Function c
--- "The register": `register.grant(l)`
-function (grant l) = record {
+-- "The register": `register.grant(l)`; without a width l is `Licence::full(s, g)`
+function (grant s g w) = record {
   Answer = GrantAnswer;
   number = grantNumber;
   Says = λ a n. grantNumber a ≡ n;
-  Asks = λ map r. grant-reads.Pre tt (r, (l, tt));
-  Step = λ map r a next. grant-reads.Post tt (r, (l, tt)) (record { next = next; answer = a }) (r, (l, tt));
+  Asks = λ map r. grant-reads.Pre tt (r, (licence s g w, tt));
+  Step = λ map r a next. grant-reads.Post tt (r, (licence s g w, tt)) (record { next = next; answer = a }) (r, (licence s g w, tt));
 }
 -- "The register": `register.cancel(s)`
 function (cancel s) = record {

@@ -9,10 +9,9 @@ use Rattle.lists.specs.Sums.{total, flag}
 use Rattle.map.specs.Format.{signed32}
 use Rattle.register.specs.declared.Ground.{Ground}
 use Rattle.register.specs.declared.Ground.the-variants as ground
-use Rattle.register.specs.declared.Licence.{Licence}
 use Rattle.register.specs.declared.Register.{Register}
 use Rattle.ledger.specs.declared.Played.{Played}
-use Rattle.demand3.specs.Calls.{Call, grant, cancel, propose, footprint}
+use Rattle.demand3.specs.Calls.{without, mhz, Call, grant, cancel, propose, footprint}
 use Rattle.demand3.specs.Ledger.{ledger}
 use Rattle.demand3.specs.Interface.{calls, numberOf, Run}
 use Rattle.demand3.specs.Right.{Holds, ListClaim}
@@ -31,9 +30,9 @@ groundAt words at =
       east = signed32 (getD words (at + 7) 0);
     }))
 
--- "The register": the licence in the eight words of a grant at a position
-abbrev pub licenceAt : (words : List ℕ) (at : ℕ) → Licence
-licenceAt words at = record { «call_sign» = getD words (at + 1) 0; ground = groundAt words at }
+-- document 02, Paper 4: "its width in MHz", in the eight words of a grant with a width at a position: the fourth, above its low 16 bits
+abbrev pub widthAt : (words : List ℕ) (at : ℕ) → ℕ
+widthAt words at = getD words (at + 3) 0 / 65536
 
 -- an item of the list, which is eight words: a call, or none, where its first word is no call's kind
 pub data Item : Type 0 where
@@ -43,22 +42,23 @@ pub data Item : Type 0 where
 -- "The list of demand 3": the item at a position, by its first word; a footprint is lent the mask and the table
 unfoldable pub itemAt : (words : List ℕ) (at : ℕ) (mask table : List ℕ) → Item
 itemAt words at mask table =
-    cond (eqb (getD words at 0) 0) (call (grant (licenceAt words at)))
+    cond (eqb (getD words at 0) 0) (call (grant (getD words (at + 1) 0) (groundAt words at) without))
     (cond (eqb (getD words at 0) 1) (call (cancel (getD words (at + 1) 0)))
     (cond (eqb (getD words at 0) 2) (call (propose (getD words (at + 1) 0)))
     (cond (eqb (getD words at 0) 3) (call (footprint (getD words (at + 1) 0) mask table))
-    unknown)))
+    (cond (eqb (getD words at 0) 4) (call (grant (getD words (at + 1) 0) (groundAt words at) (mhz (widthAt words at))))
+    unknown))))
 
 -- the mask that a call leaves: a footprint's answer has it, and any other call leaves it as it was
 abbrev pub maskLeft : (c : Call) → function c .Answer → List ℕ → List ℕ
-maskLeft (grant l) a mask = mask
+maskLeft (grant s g w) a mask = mask
 maskLeft (cancel s) a mask = mask
 maskLeft (propose draw) a mask = mask
 maskLeft (footprint draw lent entries) a mask = a .mask
 
 -- the table that a call leaves
 abbrev pub tableLeft : (c : Call) → function c .Answer → List ℕ → List ℕ
-tableLeft (grant l) a table = table
+tableLeft (grant s g w) a table = table
 tableLeft (cancel s) a table = table
 tableLeft (propose draw) a table = table
 tableLeft (footprint draw lent entries) a table = a .table

@@ -13,7 +13,7 @@ use Rattle.register.specs.Rules.{grantRule, cancelRule}
 use Rattle.proposal.specs.Answer.{proposalOn}
 use Rattle.footprint.specs.Footprint.{footprintOn}
 use Rattle.footprint.specs.Contracts.{replyOf, maskAfter}
-use Rattle.demand3.specs.Calls.{Call, grant, cancel, propose, footprint}
+use Rattle.demand3.specs.Calls.{licence, Call, grant, cancel, propose, footprint}
 use Rattle.demand3.specs.Ledger.{linesAfter}
 use Rattle.ledger.specs.Played.{Item, call, unknown, itemAt}
 
@@ -26,14 +26,14 @@ pub record Told : Type 0 where
 
 -- the number of what document 01 defines for a call by the ledger's lines, 0 where nothing is refused
 abbrev pub numberBy : Read (List Area) → List Licence → Call → ℕ
-numberBy m lines (grant l) = grantRule lines l
+numberBy m lines (grant s g w) = grantRule lines (licence s g w)
 numberBy m lines (cancel s) = cancelRule lines s
 numberBy m lines (propose draw) = proposalOn m lines draw .refused
 numberBy m lines (footprint draw mask table) = replyOf (footprintOn m lines draw (length mask) (length table)) .refused
 
 -- the mask that the call leaves: only a footprint writes it
 abbrev pub maskBy : Read (List Area) → List Licence → Call → List ℕ → List ℕ
-maskBy m lines (grant l) mask = mask
+maskBy m lines (grant s g w) mask = mask
 maskBy m lines (cancel s) mask = mask
 maskBy m lines (propose draw) mask = mask
 maskBy m lines (footprint draw lent table) mask = maskAfter (footprintOn m lines draw (length lent) (length table)) lent

@@ -11,7 +11,8 @@ ghost use mathlib.Core.List.{List};
 ghost use lib.Dec.{eqb};
 ghost use lib.ListN.{length};
 ghost use Rattle.lists.specs.Sums.{flag};
-ghost use Rattle.demand3.specs.Calls.{grant, cancel, propose, footprint};
+ghost use Rattle.register.specs.declared.Ground.{Ground};
+ghost use Rattle.demand3.specs.Calls.{Width, licence, grant, cancel, propose, footprint};
 ghost use Rattle.ledger.specs.Played.{groundAt, itemAt, PlayDone};
 ghost use Rattle.ledger.specs.Code.{CallDone, ItemDone};
 
@@ -57,9 +58,12 @@ fn ground_at(calls: &[u32], at: usize) -> Ground
     })
 }
 
-// A grant.
+// A grant, with a width or without one.
 fn play_grant(register: Register, l: Licence) -> Next
-    ensures { λ r. ⌜ ((map mask table : List ℕ) → CallDone map register (grant l) mask mask table table r) ⌝ }
+    ensures { λ r. ⌜
+        ((map mask table : List ℕ) (s : ℕ) (g : Ground) (w : Width) → licence s g w ≡ l →
+        CallDone map register (grant s g w) mask mask table table r)
+        ⌝ }
 {
     let granted = register.grant(l);
     let answer = granted.answer;
@@ -136,17 +140,22 @@ fn play_item(
     match kind {
         0 => {
             let ground = ground_at(calls, at);
+            play_grant(register, Licence::full(word, ground))
+        }
+        1 => play_cancel(register, word),
+        2 => play_proposal(map, register, word),
+        3 => play_footprint(map, register, word, mask, table),
+        4 => {
+            let ground = ground_at(calls, at);
             play_grant(
                 register,
                 Licence {
                     call_sign: word,
                     ground,
+                    width: calls[at + 3] / 65536,
                 },
             )
         }
-        1 => play_cancel(register, word),
-        2 => play_proposal(map, register, word),
-        3 => play_footprint(map, register, word, mask, table),
         _ => Next {
             made: false,
             register,
@@ -156,8 +165,9 @@ fn play_item(
 }
 
 // Plays a list of calls on one register, from an empty one, over one map; every footprint is lent the same mask and table. Eight words
-// are an item of the list: its kind (0 a grant, 1 a cancellation, 2 a proposal, 3 a footprint); its call sign or its draw; and the ground
-// of a grant, which is 0 and an area's number, or else anything but 0, a word that is not read, and the edges south, north, west and east.
+// are an item of the list: its kind (0 a grant without a width, 1 a cancellation, 2 a proposal, 3 a footprint, 4 a grant with a width); its
+// call sign or its draw; and the ground of a grant: 0 and an area's number, by the low 16 bits of the fourth word, or else anything but 0
+// and, from the fifth word on, the edges south, north, west and east. A width is what stands above those 16 bits, for both grounds.
 // The list ends before the first item of another kind, which makes no call, or with the last eight words: words after those are not read.
 pub fn play(map: &[u8], calls: &[u32], mask: &mut [u8], table: &mut [u16]) -> Played
     ensures { λ r. ⌜ PlayDone (now (map .entry)) (now (calls .entry)) (now (mask .entry)) (now (mask .exit))

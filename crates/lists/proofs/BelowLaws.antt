@@ -2,13 +2,14 @@
 use Prim.Native.Nat.{ℕ, zero, suc, _+_, _*_, _≤_, _<_}
 use mathlib.Core.Path.{_≡_, refl, sym, ap, _∙_}
 use mathlib.Core.Bool.{Bool, true, false, cond, _||_, _&&_, or-true, or-false, or-assoc}
-use mathlib.Core.List.{[], _∷_}
+use mathlib.Core.List.{List, [], _∷_}
 use native.Mathlib.Omega.{arith}
-use native.Mathlib.Nat.{add-zero, add-suc, mul-suc}
+use native.Mathlib.Nat.{add-zero, add-suc, mul-suc, one-mul}
 use native.Mathlib.Numerals.{add-one}
 use lib.Dec.{eqb}
+use lib.ListN.{getD}
 use borrow.Author.Tests.{eqb-true, eqb-false}
-use Rattle.lists.specs.Sums.{total, someBelow, everyBelow, sumBelow, sumTo}
+use Rattle.lists.specs.Sums.{total, flag, count, someBelow, everyBelow, sumBelow, sumTo}
 use Rattle.lists.specs.Filters.{filter, upTo}
 use Rattle.lists.proofs.Tests.{by-test, not-both, first-of, second-of}
 use Rattle.lists.proofs.SumLaws.{total-append}
@@ -186,3 +187,25 @@ sum-none f p (suc n) h = rw (sum-none f p n (λ i l. h i (omega arith)), h n (om
 -- nor where each adds 0
 pub sum-zero : (f : ℕ → ℕ) (n : ℕ) → ((i : ℕ) → i < n → f i ≡ 0) → sumTo f n ≡ 0
 sum-zero f n h = sum-same f f (λ _. true) (λ _. false) n h ∙ sum-none f (λ _. false) n (λ _ _. refl)
+
+-- a count is a sum in which each number that passes adds 1
+pub count-sum : (test : ℕ → Bool) (n : ℕ) → count test n ≡ sumTo (λ i. 1 * flag (test i)) n
+unfolding count sumBelow
+count-sum test zero = refl
+count-sum test (suc n) = λ i. count-sum test n i + sym (one-mul (flag (test n))) i
+
+-- a sum begins with what 0 adds
+sum-first : (f : ℕ → ℕ) (n : ℕ) → sumTo f (suc n) ≡ f 0 + sumTo (λ i. f (suc i)) n
+unfolding sumBelow
+sum-first f zero = omega arith
+sum-first f (suc n) = let h = sum-first f n in omega arith
+
+-- a sum over a list, by place, up to where no later place adds to it
+pub sum-total : {A : Type 0} (f : A → ℕ) (d : A) (l : List A) (n : ℕ) → ((i : ℕ) → n ≤ i → f (getD l i d) ≡ 0) →
+    sumTo (λ i. f (getD l i d)) n ≡ total f l
+unfolding sumBelow
+sum-total f d [] n h = sum-zero (λ _. f d) n (λ i b. h n (omega arith))
+sum-total f d (a ∷ l) zero h = λ i. sym (h 0 (omega arith)) i + sum-total f d l zero (λ k b. h (suc k) (omega arith)) i
+sum-total f d (a ∷ l) (suc n) h =
+    sum-first (λ i. f (getD (a ∷ l) i d)) n
+    ∙ ap (λ (m : ℕ). f a + m) (sum-total f d l n (λ k b. h (suc k) (omega arith)))

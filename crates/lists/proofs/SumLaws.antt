@@ -1,5 +1,5 @@
 -- Laws of sums over lists. Assumes nothing.
-use Prim.Native.Nat.{ℕ, zero, suc, _+_, _*_, _≤_, _<_, zero-le}
+use Prim.Native.Nat.{ℕ, zero, suc, _+_, _*_, _≤_, _<_}
 use mathlib.Core.Path.{_≡_, refl, sym, ap, _∙_}
 use mathlib.Core.Bool.{Bool, true, false}
 use mathlib.Core.List.{List, [], _∷_, _++_, map}
@@ -15,20 +15,10 @@ use Rattle.lists.proofs.Tests.{by-test}
 
 -- ---- counts over the numbers below n
 
-count-none : (test : ℕ → Bool) (n : ℕ) → ((i : ℕ) → test i ≡ false) → count test n ≡ 0
-unfolding count
-count-none test zero h = refl
-count-none test (suc n) h = λ i. count-none test n h i + flag (h n i)
-
 pub count-same : (f g : ℕ → Bool) (n : ℕ) → ((i : ℕ) → i < n → f i ≡ g i) → count f n ≡ count g n
 unfolding count
 count-same f g zero h = refl
 count-same f g (suc n) h = λ i. count-same f g n (λ k b. h k (omega arith)) i + flag (h n (omega arith) i)
-
-count-first : (test : ℕ → Bool) (n : ℕ) → count test (suc n) ≡ flag (test 0) + count (λ i. test (suc i)) n
-unfolding count
-count-first test zero = omega arith
-count-first test (suc n) = let h = count-first test n in omega arith
 
 -- a count of the numbers below n is at most n
 pub count-most : (f : ℕ → Bool) (n : ℕ) → count f n ≤ n
@@ -103,18 +93,6 @@ module _ {A : Type 0} where
       ap (total f) (take-suc l i d h)
       ∙ total-append f (take i l) (getD l i d ∷ [])
       ∙ (let x = f (getD l i d) in omega arith)
-
-  -- ---- how many elements pass a test
-
-  -- counted by place, up to where no later place passes
-  pub count-total : (p : A → Bool) (d : A) (l : List A) (n : ℕ) → ((i : ℕ) → n ≤ i → p (getD l i d) ≡ false) →
-      count (λ i. p (getD l i d)) n ≡ total (λ a. flag (p a)) l
-  unfolding count
-  count-total p d [] n h = count-none (λ i. p d) n (λ i. h n (omega arith))
-  count-total p d (a ∷ l) zero h = λ i. flag (sym (h 0 zero-le) i) + count-total p d l zero (λ k b. h (suc k) zero-le) i
-  count-total p d (a ∷ l) (suc n) h =
-      count-first (λ i. p (getD (a ∷ l) i d)) n
-      ∙ ap (λ (m : ℕ). flag (p a) + m) (count-total p d l n (λ k b. h (suc k) (omega arith)))
 
 module _ {A B : Type 0} where
   -- the sum over two lists, in either order

@@ -43,29 +43,29 @@ module _ (s : List ℕ) (bits n j : ℕ) where
 
 sum-first : (c : Counts) → c ≡ sum noCounts c
 sum-first c = λ i.
-    counts (sym (zero-add (c .people .0)) i) (sym (zero-add (c .cells .0)) i) (sym (zero-add (c .«boxed_people» .0)) i)
+    counts (sym (zero-add (c .people .0)) i) (sym (zero-add (c .cells .0)) i) (sym (zero-add (c .«boxed_mhz_pops» .0)) i)
     (sym (zero-add (c .«boxed_cells» .0)) i)
 
 sum-last : (c : Counts) → sum c noCounts ≡ c
 sum-last c = λ i.
-    counts (add-zero (c .people .0) i) (add-zero (c .cells .0) i) (add-zero (c .«boxed_people» .0) i)
+    counts (add-zero (c .people .0) i) (add-zero (c .cells .0) i) (add-zero (c .«boxed_mhz_pops» .0) i)
     (add-zero (c .«boxed_cells» .0) i)
 
 sum-assoc : (a b c : Counts) → sum a (sum b c) ≡ sum (sum a b) c
 sum-assoc a b c = λ i.
     counts (sym (add-assoc (a .people .0) (b .people .0) (c .people .0)) i)
     (sym (add-assoc (a .cells .0) (b .cells .0) (c .cells .0)) i)
-    (sym (add-assoc (a .«boxed_people» .0) (b .«boxed_people» .0) (c .«boxed_people» .0)) i)
+    (sym (add-assoc (a .«boxed_mhz_pops» .0) (b .«boxed_mhz_pops» .0) (c .«boxed_mhz_pops» .0)) i)
     (sym (add-assoc (a .«boxed_cells» .0) (b .«boxed_cells» .0) (c .«boxed_cells» .0)) i)
 
 pub small-none : (n : ℕ) → Small n noCounts
-small-none n = record { people = omega arith; cells = omega arith; boxed-people = omega arith; boxed-cells = omega arith }
+small-none n = record { people = omega arith; cells = omega arith; boxed-mhz-pops = omega arith; boxed-cells = omega arith }
 
 pub small-sum : {m n : ℕ} {a b : Counts} → Small m a → Small n b → Small (m + n) (sum a b)
 small-sum h k = record {
   people = omega (arith, h .people, k .people);
   cells = omega (arith, h .cells, k .cells);
-  boxed-people = omega (arith, h .boxed-people, k .boxed-people);
+  boxed-mhz-pops = omega (arith, h .boxed-mhz-pops, k .boxed-mhz-pops);
   boxed-cells = omega (arith, h .boxed-cells, k .boxed-cells);
 }
 
@@ -73,7 +73,7 @@ pub small-more : {m n : ℕ} {c : Counts} → m ≤ n → Small m c → Small n 
 small-more l h = record {
   people = omega (arith, h .people);
   cells = omega (arith, h .cells);
-  boxed-people = omega (arith, h .boxed-people);
+  boxed-mhz-pops = omega (arith, h .boxed-mhz-pops);
   boxed-cells = omega (arith, h .boxed-cells);
 }
 
@@ -86,7 +86,7 @@ sum-exact : {n : ℕ} (a b : Counts) → n ≤ 65536 → Small n (sum a b) → c
 sum-exact {n} a b l h = λ i.
     counts (exact (a .people .0 + b .people .0) (omega (arith, h .people)) i)
     (exact (a .cells .0 + b .cells .0) (omega (arith, h .cells)) i)
-    (exact (a .«boxed_people» .0 + b .«boxed_people» .0) (omega (arith, h .boxed-people)) i)
+    (exact (a .«boxed_mhz_pops» .0 + b .«boxed_mhz_pops» .0) (omega (arith, h .boxed-mhz-pops)) i)
     (exact (a .«boxed_cells» .0 + b .«boxed_cells» .0) (omega (arith, h .boxed-cells)) i)
 
 -- ---- the counts of items that are read one after another
@@ -198,5 +198,5 @@ module _
 
 -- ---- the loop of the walk: the rows of a grid
 
-pub grid-adds : (edges : List ℤ) → Adds (rowCounts edges) (gridCounts edges)
-grid-adds edges = record { none = refl; more = λ a l. refl }
+pub grid-adds : (edges : List ℤ) (widths : List ℕ) → Adds (rowCounts edges widths) (gridCounts edges widths)
+grid-adds edges widths = record { none = refl; more = λ a l. refl }

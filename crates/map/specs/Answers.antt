@@ -116,12 +116,12 @@ summary a = record {
 }
 
 -- an area with what is counted over its cells under boxes
-abbrev pub countedArea : (edges : List ℤ) → format.Area → CountedArea
-countedArea edges a = record { area = summary a; counts = gridCounts edges (a .grid) }
+abbrev pub countedArea : (edges : List ℤ) (widths : List ℕ) → format.Area → CountedArea
+countedArea edges widths a = record { area = summary a; counts = gridCounts edges widths (a .grid) }
 
 -- the same, but under boxes only if the area has the number that is sought
-abbrev pub countedFor : (number : ℕ) (edges : List ℤ) → format.Area → CountedArea
-countedFor number edges a = countedArea (cond (eqb (a .head .number) number) edges []) a
+abbrev pub countedFor : (number : ℕ) (edges : List ℤ) (widths : List ℕ) → format.Area → CountedArea
+countedFor number edges widths a = countedArea (cond (eqb (a .head .number) number) edges []) widths a
 
 abbrev pub areaMeans : AreaRead → Read CountedArea
 areaMeans (area-read.Bad f) = bad (faultNumber f)

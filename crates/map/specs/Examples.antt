@@ -25,9 +25,9 @@ use Rattle.map.specs.Format.{
   readMap,
   Area,
 }
-use Rattle.lists.specs.Sums.{count}
-use Rattle.boxes.specs.Boxes.{boxesOver}
-use Rattle.map.specs.Counting.{boxedPeople, boxedCells, gridCounts}
+use Rattle.lists.specs.Sums.{count, sumBelow}
+use Rattle.boxes.specs.Boxes.{boxesOver, widthOver}
+use Rattle.map.specs.Counting.{boxedMhzPops, boxedCells, gridCounts}
 use Rattle.map.specs.Answers.{numberOf, locate, partOf}
 
 -- ---- bytes
@@ -195,34 +195,42 @@ look-ups-right = refl
 
 pub record Walks : Type 0 where
   pub edges : List ℤ
+  pub widths : List ℕ
   pub people : ℕ
   pub cells : ℕ
-  pub boxed-people : ℕ
+  pub boxed-mhz-pops : ℕ
   pub boxed-cells : ℕ
 
-abbrev walks : List ℤ → (people cells boxed-people boxed-cells : ℕ) → Walks
-walks edges p n q m = record { edges = edges; people = p; cells = n; boxed-people = q; boxed-cells = m }
+abbrev walks : List ℤ → List ℕ → (people cells boxed-mhz-pops boxed-cells : ℕ) → Walks
+walks edges widths p n q m = record {
+  edges = edges;
+  widths = widths;
+  people = p;
+  cells = n;
+  boxed-mhz-pops = q;
+  boxed-cells = m;
+}
 
 abbrev walked : List Walks
 walked =
     -- the population, and the cells with and without people
-    walks [] 20 5 0 0 ∷
-    -- a box over columns 2 and 3, and two such
-    walks (pos 0 ∷ pos 1 ∷ pos 2 ∷ pos 4 ∷ []) 20 5 7 2 ∷
-    walks (pos 0 ∷ pos 0 ∷ pos 1 ∷ pos 1 ∷ pos 2 ∷ pos 2 ∷ pos 4 ∷ pos 4 ∷ []) 20 5 14 4 ∷
+    walks [] (50 ∷ []) 20 5 0 0 ∷
+    -- a box over columns 2 and 3, 50 MHz wide, and two such, of which one is narrower: a cell counts once for each, whatever its width
+    walks (pos 0 ∷ pos 1 ∷ pos 2 ∷ pos 4 ∷ []) (50 ∷ []) 20 5 350 2 ∷
+    walks (pos 0 ∷ pos 0 ∷ pos 1 ∷ pos 1 ∷ pos 2 ∷ pos 2 ∷ pos 4 ∷ pos 4 ∷ []) (50 ∷ 1 ∷ []) 20 5 357 4 ∷
     -- a cell without people counts among the cells
-    walks (pos 0 ∷ pos 1 ∷ pos 1 ∷ pos 2 ∷ []) 20 5 0 1 ∷
+    walks (pos 0 ∷ pos 1 ∷ pos 1 ∷ pos 2 ∷ []) (50 ∷ []) 20 5 0 1 ∷
     -- the south and west edges belong to a box, the north and east edges do not
-    walks (negsuc 0 ∷ pos 0 ∷ pos 0 ∷ pos 5 ∷ []) 20 5 0 0 ∷
-    walks (pos 0 ∷ pos 1 ∷ pos 0 ∷ pos 1 ∷ []) 20 5 5 1 ∷
-    walks (pos 0 ∷ pos 1 ∷ negsuc 5 ∷ pos 0 ∷ []) 20 5 0 0 ∷
+    walks (negsuc 0 ∷ pos 0 ∷ pos 0 ∷ pos 5 ∷ []) (20 ∷ []) 20 5 0 0 ∷
+    walks (pos 0 ∷ pos 1 ∷ pos 0 ∷ pos 1 ∷ []) (20 ∷ []) 20 5 100 1 ∷
+    walks (pos 0 ∷ pos 1 ∷ negsuc 5 ∷ pos 0 ∷ []) (20 ∷ []) 20 5 0 0 ∷
     []
 
 abbrev same-counts : Walks → List Area → Bool
 same-counts w [] = false
 same-counts w (a ∷ l) =
-    let c = gridCounts (w .edges) (a .grid) in
-    eqb (c .people .0) (w .people) && eqb (c .cells .0) (w .cells) && eqb (c .«boxed_people» .0) (w .boxed-people)
+    let c = gridCounts (w .edges) (w .widths) (a .grid) in
+    eqb (c .people .0) (w .people) && eqb (c .cells .0) (w .cells) && eqb (c .«boxed_mhz_pops» .0) (w .boxed-mhz-pops)
     && eqb (c .«boxed_cells» .0) (w .boxed-cells)
 
 abbrev walkedIn : Walks → Read (List Area) → Bool
@@ -234,6 +242,6 @@ allWalked [] = true
 allWalked (w ∷ ws) = walkedIn w (readMap row) && allWalked ws
 
 walks-right : allWalked walked ≡ true
-unfolding count boxesOver boxedPeople boxedCells many numberAt signed32 field readCell bitAt readPlace clearFrom readRow
+unfolding count sumBelow boxesOver widthOver boxedMhzPops boxedCells many numberAt signed32 field readCell bitAt readPlace clearFrom readRow
     numberField sizeField readHead readBody readArea readAreas readRest readMap
 walks-right = refl

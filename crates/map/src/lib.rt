@@ -98,7 +98,8 @@ pub fn look_up(map: &[u8], number: u16) -> Found
     ensures { λ r. ⌜ foundMeans r ≡ lookUp number (readMap (now (map .entry))) ⌝ }
 {
     let edges = [0i32; 4];
-    match parts::find(map, number, &edges[..0]) {
+    let widths = [0u8; 64];
+    match parts::find(map, number, &edges[..0], &widths) {
         Sought::Refused(f) => Found::Refused(f),
         Sought::Lacking => Found::Lacking,
         Sought::At(a) => {

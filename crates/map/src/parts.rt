@@ -7,10 +7,11 @@ use super::fields::Coordinate;
 use super::fields::Field;
 use super::rows;
 use units::Cells;
+use units::MhzPops;
 use units::People;
 ghost use mathlib.Core.Path.{_≡_};
 ghost use mathlib.Core.Bool.{true, cond};
-ghost use mathlib.Core.List.{[]};
+ghost use mathlib.Core.List.{List, []};
 ghost use Prim.Native.Nat.{ℕ, _+_, _*_, _-_, _/_, _≤_, _<_};
 ghost use lib.ListN.{length};
 ghost use Rattle.map.specs.Reading.{bad, good, mapRead};
@@ -35,11 +36,11 @@ pub enum PlaceRead {
     There(Cell, usize),
 }
 
-// What one walk over cells counts: their people and their number, and of those under boxes the people and the number, once for each box.
+// What one walk over cells counts: their people and their number, and of those under boxes the MHz-pops and the number, once for each box.
 pub struct Counts {
     pub people: People,
     pub cells: Cells,
-    pub boxed_people: People,
+    pub boxed_mhz_pops: MhzPops,
     pub boxed_cells: Cells,
 }
 
@@ -87,7 +88,7 @@ impl Counts {
     const NONE: Counts = Counts {
         people: People(0),
         cells: Cells(0),
-        boxed_people: People(0),
+        boxed_mhz_pops: MhzPops(0),
         boxed_cells: Cells(0),
     };
 
@@ -97,12 +98,12 @@ impl Counts {
     {
         let people = self.people;
         let cells = self.cells;
-        let boxed_people = self.boxed_people;
+        let boxed_mhz_pops = self.boxed_mhz_pops;
         let boxed_cells = self.boxed_cells;
         Counts {
             people: people.plus(other.people),
             cells: cells.plus(other.cells),
-            boxed_people: boxed_people.plus(other.boxed_people),
+            boxed_mhz_pops: boxed_mhz_pops.plus(other.boxed_mhz_pops),
             boxed_cells: boxed_cells.plus(other.boxed_cells),
         }
     }
@@ -213,16 +214,19 @@ fn counted(fine: bool, counts: Counts, end: usize) -> Tally
     Tally::Bad(Fault::Limit)
 }
 
-// The n cells of a row that stand in the map from a position on.
+// The n cells of a row that stand in the map from a position on, under no box, so whatever the widths.
 fn bare_row(s: &[u8], start: usize, n: usize) -> Tally
     requires { ⌜ (start + 12 * n ≤ length (now s)) × (n ≤ 256) ⌝ }
-    ensures { λ r. ⌜ (tallyMeans r ≡ mapRead (cellCounts []) (readCells (now (s .entry)) n start)) × TallySmall n r ⌝ }
+    ensures { λ r. ⌜
+        ((widths : List ℕ) → tallyMeans r ≡ mapRead (cellCounts [] widths) (readCells (now (s .entry)) n start))
+        × TallySmall n r
+        ⌝ }
 {
     let sum = rows::sum_row(s, start, n);
     let counts = Counts {
         people: People(sum.people as u64),
         cells: Cells(n as u64),
-        boxed_people: People(0),
+        boxed_mhz_pops: MhzPops(0),
         boxed_cells: Cells(0),
     };
     counted(sum.fine, counts, start + 12 * n)
@@ -234,22 +238,23 @@ fn boxed_row(
     start: usize,
     n: usize,
     edges: &[i32],
+    widths: &[u8; 64],
     people: &mut [u32; 256],
     latitudes: &mut [i32; 256],
     longitudes: &mut [i32; 256],
 ) -> Tally
     requires { ⌜ (start + 12 * n ≤ length (now s)) × (n ≤ 256) × (length (now edges) ≤ 256) ⌝ }
     ensures { λ r. ⌜
-        (tallyMeans r ≡ mapRead (cellCounts (now (edges .entry))) (readCells (now (s .entry)) n start))
+        (tallyMeans r ≡ mapRead (cellCounts (now (edges .entry)) (now (widths .entry))) (readCells (now (s .entry)) n start))
         × TallySmall n r
         ⌝ }
 {
     rows::take_row(s, start, n, people, latitudes, longitudes);
-    let row = boxes::count_row(edges, people, latitudes, longitudes, n);
+    let row = boxes::count_row(edges, widths, people, latitudes, longitudes, n);
     let counts = Counts {
         people: People(row.people as u64),
         cells: Cells(n as u64),
-        boxed_people: People(row.boxed_people),
+        boxed_mhz_pops: MhzPops(row.boxed_mhz_pops),
         boxed_cells: Cells(row.boxed_cells),
     };
     counted(row.fine, counts, start + 12 * n)
@@ -261,13 +266,14 @@ fn row(
     columns: usize,
     at: usize,
     edges: &[i32],
+    widths: &[u8; 64],
     people: &mut [u32; 256],
     latitudes: &mut [i32; 256],
     longitudes: &mut [i32; 256],
 ) -> Tally
     requires { ⌜ (columns ≤ 256) × (length (now edges) ≤ 256) ⌝ }
     ensures { λ r. ⌜
-        (tallyMeans r ≡ mapRead (rowCounts (now (edges .entry))) (readRow (now (s .entry)) columns at))
+        (tallyMeans r ≡ mapRead (rowCounts (now (edges .entry)) (now (widths .entry))) (readRow (now (s .entry)) columns at))
         × TallySmall columns r
         ⌝ }
 {
@@ -286,14 +292,21 @@ fn row(
     if edges.len() == 0 {
         return bare_row(s, start, n);
     }
-    boxed_row(s, start, n, edges, people, latitudes, longitudes)
+    boxed_row(s, start, n, edges, widths, people, latitudes, longitudes)
 }
 
-// The walk over an area's rows, one row a turn: its cells and their people, and those under the boxes.
-fn walk(s: &[u8], columns: usize, rows: usize, start: usize, edges: &[i32]) -> Tally
+// The walk over an area's rows, one row a turn: its cells and their people, and the cells and the MHz-pops under the boxes.
+fn walk(
+    s: &[u8],
+    columns: usize,
+    rows: usize,
+    start: usize,
+    edges: &[i32],
+    widths: &[u8; 64],
+) -> Tally
     requires { ⌜ (columns ≤ 256) × (rows ≤ 256) × (length (now edges) ≤ 256) ⌝ }
     ensures { λ r. ⌜
-        (tallyMeans r ≡ mapRead (gridCounts (now (edges .entry))) (readRows (now (s .entry)) columns rows start))
+        (tallyMeans r ≡ mapRead (gridCounts (now (edges .entry)) (now (widths .entry))) (readRows (now (s .entry)) columns rows start))
         × TallySmall (256 * rows) r
         ⌝ }
 {
@@ -309,6 +322,7 @@ fn walk(s: &[u8], columns: usize, rows: usize, start: usize, edges: &[i32]) -> T
             columns,
             at,
             edges,
+            widths,
             &mut people,
             &mut latitudes,
             &mut longitudes,
@@ -354,11 +368,13 @@ fn head_at(s: &[u8], before: u16, at: usize) -> HeadRead
 }
 
 // The area whose head was read: its rows from start, and what is counted over them. Its people are its population.
-fn area_from(s: &[u8], h: Head, start: usize, edges: &[i32]) -> AreaRead
+fn area_from(s: &[u8], h: Head, start: usize, edges: &[i32], widths: &[u8; 64]) -> AreaRead
     requires { ⌜ (h .rows ≤ 256) × (h .columns ≤ 256) × (length (now edges) ≤ 256) ⌝ }
-    ensures { λ r. ⌜ areaMeans r ≡ mapRead (countedArea (now (edges .entry))) (readBody (now (s .entry)) (headOf h) start) ⌝ }
+    ensures { λ r. ⌜
+        areaMeans r ≡ mapRead (countedArea (now (edges .entry)) (now (widths .entry))) (readBody (now (s .entry)) (headOf h) start)
+        ⌝ }
 {
-    match walk(s, h.columns, h.rows, start, edges) {
+    match walk(s, h.columns, h.rows, start, edges, widths) {
         Tally::Bad(f) => AreaRead::Bad(f),
         Tally::Good(counts, end) => {
             let population = counts.people;
@@ -385,28 +401,39 @@ fn area_from(s: &[u8], h: Head, start: usize, edges: &[i32]) -> AreaRead
 }
 
 // The area at a position, with a number above the one before, counted under boxes.
-pub fn area_at(s: &[u8], before: u16, at: usize, edges: &[i32]) -> AreaRead
+pub fn area_at(s: &[u8], before: u16, at: usize, edges: &[i32], widths: &[u8; 64]) -> AreaRead
     requires { ⌜ length (now edges) ≤ 256 ⌝ }
-    ensures { λ r. ⌜ areaMeans r ≡ mapRead (countedArea (now (edges .entry))) (readArea (now (s .entry)) before at) ⌝ }
+    ensures { λ r. ⌜
+        areaMeans r ≡ mapRead (countedArea (now (edges .entry)) (now (widths .entry))) (readArea (now (s .entry)) before at)
+        ⌝ }
 {
     match head_at(s, before, at) {
         HeadRead::Bad(f) => AreaRead::Bad(f),
-        HeadRead::Good(h, start) => area_from(s, h, start, edges),
+        HeadRead::Good(h, start) => area_from(s, h, start, edges, widths),
     }
 }
 
 // The area at a position, counted under boxes only if it has the number that is sought, so that no other area costs more than its check.
-fn area_for(s: &[u8], before: u16, at: usize, number: u16, edges: &[i32]) -> AreaRead
+fn area_for(
+    s: &[u8],
+    before: u16,
+    at: usize,
+    number: u16,
+    edges: &[i32],
+    widths: &[u8; 64],
+) -> AreaRead
     requires { ⌜ length (now edges) ≤ 256 ⌝ }
-    ensures { λ r. ⌜ areaMeans r ≡ mapRead (countedFor number (now (edges .entry))) (readArea (now (s .entry)) before at) ⌝ }
+    ensures { λ r. ⌜
+        areaMeans r ≡ mapRead (countedFor number (now (edges .entry)) (now (widths .entry))) (readArea (now (s .entry)) before at)
+        ⌝ }
 {
     match head_at(s, before, at) {
         HeadRead::Bad(f) => AreaRead::Bad(f),
         HeadRead::Good(h, start) => {
             if h.number == number {
-                return area_from(s, h, start, edges);
+                return area_from(s, h, start, edges, widths);
             }
-            area_from(s, h, start, &edges[..0])
+            area_from(s, h, start, &edges[..0], widths)
         }
     }
 }
@@ -430,10 +457,17 @@ fn keep(found: Sought, a: CountedArea, number: u16) -> Sought
 }
 
 // The areas of a map, from the first one's position to the end of the map.
-fn areas(map: &[u8], number: u16, edges: &[i32], count: u32, first: usize) -> Sought
+fn areas(
+    map: &[u8],
+    number: u16,
+    edges: &[i32],
+    widths: &[u8; 64],
+    count: u32,
+    first: usize,
+) -> Sought
     requires { ⌜ (count ≤ 32) × (length (now edges) ≤ 256) ⌝ }
     ensures { λ r. ⌜
-        soughtMeans r ≡ seek (countedArea (now (edges .entry))) number (readRest (now (map .entry)) count first)
+        soughtMeans r ≡ seek (countedArea (now (edges .entry)) (now (widths .entry))) number (readRest (now (map .entry)) count first)
         ⌝ }
 {
     let mut at = first;
@@ -441,7 +475,7 @@ fn areas(map: &[u8], number: u16, edges: &[i32], count: u32, first: usize) -> So
     let mut found = Sought::Lacking;
     let mut k: u32 = 0;
     while k < count {
-        match area_for(map, before, at, number, edges) {
+        match area_for(map, before, at, number, edges, widths) {
             AreaRead::Bad(f) => {
                 return Sought::Refused(f);
             }
@@ -462,12 +496,12 @@ fn areas(map: &[u8], number: u16, edges: &[i32], count: u32, first: usize) -> So
 }
 
 // The area with a number, counted under boxes, in a map that is checked whole.
-pub fn find(map: &[u8], number: u16, edges: &[i32]) -> Sought
+pub fn find(map: &[u8], number: u16, edges: &[i32], widths: &[u8; 64]) -> Sought
     requires { ⌜ length (now edges) ≤ 256 ⌝ }
-    ensures { λ r. ⌜ soughtMeans r ≡ seek (countedArea (now (edges .entry))) number (readMap (now (map .entry))) ⌝ }
+    ensures { λ r. ⌜ soughtMeans r ≡ seek (countedArea (now (edges .entry)) (now (widths .entry))) number (readMap (now (map .entry))) ⌝ }
 {
     match fields::u8_field(map, 0, 1, 32) {
         Field::Bad(f) => Sought::Refused(f),
-        Field::Good(count, first) => areas(map, number, edges, count, first),
+        Field::Good(count, first) => areas(map, number, edges, widths, count, first),
     }
 }

@@ -30,24 +30,23 @@ use Rattle.proposal.specs.Code.{sizes, weights, Bounded, Gathered}
 
 -- ---- a partial area's value is below its size
 
-partial-below : (a : Holding) → partial a ≡ true → 50 * remainder a < 99 * a .population .0
+partial-below : (a : Holding) → partial a ≡ true → remainder a < 99 * a .population .0
 unfolding partial roundsUp
 partial-below a h =
-    by-test (leb (99 * a .population .0) (50 * remainder a))
+    by-test (leb (99 * a .population .0) (remainder a))
     (λ t. not-both h (simp t))
-    (λ t. leb-false (99 * a .population .0) (50 * remainder a) t)
+    (λ t. leb-false (99 * a .population .0) (remainder a) t)
 
 value-below : (a : Holding) → partial a ≡ true → value a ≤ size a
 unfolding value size
 value-below a h =
-    let r : remainder a ≤ 2 * a .population .0 = omega (arith, partial-below a h) in
+    let r : remainder a ≤ 100 * a .population .0 = omega (arith, partial-below a h) in
     let w : a .weight ≤ a .weight = omega arith in
     omega (
       arith,
-      mul-assoc 50 (a .weight) (remainder a),
-      mul-assoc 100 (a .weight) (a .population .0),
       mul-le-mul w r,
-      mul-left-comm (a .weight) 2 (a .population .0),
+      mul-left-comm (a .weight) 100 (a .population .0),
+      mul-assoc 100 (a .weight) (a .population .0),
     )
 
 -- ---- S, one area after another

@@ -8,4 +8,6 @@ pub mod Theorems
 pub mod AnswerLaws
 pub mod MapLaws
 pub mod EmptyLaws
+pub mod Terms
 pub mod PeopleOnly
+pub mod FullWidth

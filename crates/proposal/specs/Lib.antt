@@ -4,5 +4,7 @@ pub mod Best
 pub mod Answer
 pub mod Contracts
 pub mod Demand
+pub mod Terms
 pub mod PeopleOnly
+pub mod FullWidth
 pub mod Code

@@ -1,19 +1,9 @@
--- Document 02, Paper 1: "Ranking and shares read people only", as a claim about areas that differ in their cells alone. Assumes nothing.
-use Prim.Native.Nat.{ℕ}
+-- Document 02, Paper 1: "Ranking and shares read people only", which since Paper 4 means c in MHz-pops and no cells, as a claim about areas
+-- that differ in their cells alone. Assumes nothing.
 use mathlib.Core.Path.{_≡_}
-use mathlib.Core.List.{List, [], _∷_}
+use mathlib.Core.List.{List}
 use Rattle.coverage.specs.declared.Holding.{Holding}
-use Rattle.search.specs.Choice.{Mark}
-use Rattle.proposal.specs.Choices.{partials, share, allowed}
-use Rattle.proposal.specs.Best.{rank}
-use Rattle.proposal.specs.Answer.{Given, Proposal, proposal}
-
--- the lists are as long, and what stands at a place of one is related to what stands there in the other
-abbrev pub Pairwise : {A : Type 0} → (A → A → Type 0) → List A → List A → Type 0
-Pairwise R [] [] = Unit {0}
-Pairwise R [] (b ∷ m) = ⊥
-Pairwise R (a ∷ l) [] = ⊥
-Pairwise R (a ∷ l) (b ∷ m) = R a b × Pairwise R l m
+use Rattle.proposal.specs.Terms.{Pairwise, SameProposals}
 
 -- two areas that differ at most in their cells
 pub record SameButCells (a b : Holding) : Type 0 where
@@ -22,25 +12,7 @@ pub record SameButCells (a b : Holding) : Type 0 where
   pub population : a .population ≡ b .population
   pub covered : a .covered ≡ b .covered
 
--- what two areas are given differs at most in the cells shown
-pub record SameGiven (g h : Given) : Type 0 where
-  pub number : g .number ≡ h .number
-  pub blocks : g .blocks ≡ h .blocks
-  pub gets : g .gets ≡ h .gets
-
--- two proposals that differ at most in the cells shown
-pub record SameProposal (p q : Proposal) : Type 0 where
-  pub refused : p .refused ≡ q .refused
-  pub kind : p .kind ≡ q .kind
-  pub target : p .target ≡ q .target
-  pub white : p .white ≡ q .white
-  pub tied : p .tied ≡ q .tied
-  pub given : Pairwise SameGiven (p .areas) (q .areas)
-
--- "Ranking and shares read people only": where areas differ in their cells alone, every choice has the same share and rank and is
--- allowed or not alike, and for every draw the proposals differ at most in the cells that they show
-pub record PeopleOnly (xs ys : List Holding) : Type 0 where
-  pub shares : (c : List Mark) → share (partials xs) c ≡ share (partials ys) c
-  pub allows : (c : List Mark) → allowed (partials xs) c ≡ allowed (partials ys) c
-  pub ranks : (c : List Mark) → rank (partials xs) c ≡ rank (partials ys) c
-  pub proposals : (draw : ℕ) → SameProposal (proposal xs draw) (proposal ys draw)
+-- "Ranking and shares read people only": where areas differ in their cells alone, shares, allowed choices and ranks are the same, and
+-- proposals differ at most in the cells that they show
+abbrev pub PeopleOnly : Type 0
+PeopleOnly = (xs ys : List Holding) → Pairwise SameButCells xs ys → SameProposals xs ys

@@ -5,15 +5,17 @@ use mathlib.Core.Bool.{Bool, true, false}
 use mathlib.Core.List.{List}
 use mathlib.Core.Logic.{_≢_}
 use native.Mathlib.Omega.{arith}
+use native.Mathlib.Nat.{mul-add, mul-one, mul-zero, one-mul}
 use native.Mathlib.Numerals.{add-one}
 use lib.Dec.{leb}
 use lib.IntN.{ℤ, pos}
 use lib.ListN.{length, getD, set, take, replicate, length-set, length-replicate, List·getD-eq-default}
 use lib.Seq.{take-all, getD-set-same, getD-set-other}
 use borrow.Author.Tests.{leb-true, leb-false}
-use Rattle.lists.specs.Sums.{total, flag, count}
+use Rattle.lists.specs.Sums.{total, flag, count, sumTo}
 use Rattle.lists.proofs.Tests.{by-test, not-both}
-use Rattle.lists.proofs.SumLaws.{total-next, total-same, count-same, count-total}
+use Rattle.lists.proofs.SumLaws.{total-next, total-same}
+use Rattle.lists.proofs.BelowLaws.{sum-same, sum-total, count-sum}
 use Rattle.register.specs.declared.GeoBox.{GeoBox}
 use Rattle.register.specs.declared.Ground.{Ground}
 use Rattle.register.specs.declared.Ground.the-variants.{Area, Box}
@@ -37,6 +39,11 @@ module _ (l : Licence) where
   unfolding atPlace
   held-adds f n = simp (sign-not 0 l n)
 
+  -- what it adds, multiplied by a number of the licence
+  pub times-adds : (w f : Licence → ℕ) → w l * atPlace f l ≡ atPlace (λ x. w x * f x) l
+  unfolding atPlace
+  times-adds w f = by-test (hasSign 0 l) (λ t. simp t (mul-zero (w l))) (λ t. simp t)
+
   pub free-passes : (p : Licence → Bool) → l .«call_sign» ≡ 0 → passesAt p l ≡ false
   unfolding passesAt
   free-passes p e = simp (sign-is 0 l e)
@@ -47,20 +54,21 @@ module _ (l : Licence) where
 
 -- ---- a sum over the licences in force, place by place
 
--- the invariant of the loop at place i
-pub record Counted (f : Licence → ℕ) (ps : List FlatLicence) (i sum : ℕ) : Type 0 where
+-- the invariant of the loop at place i, where a place adds at most so much
+pub record Counted (most : ℕ) (f : Licence → ℕ) (ps : List FlatLicence) (i sum : ℕ) : Type 0 where
   pub inside : i ≤ length ps
-  pub small : sum ≤ i
+  pub small : sum ≤ most * i
   pub is : sum ≡ total (λ p. atPlace f (licenceOf p)) (take i ps)
 
-pub count-starts : {f : Licence → ℕ} {ps : List FlatLicence} → Counted f ps 0 0
-count-starts {f} {ps} = record { inside = omega arith; small = omega arith; is = refl }
+pub count-starts : {most : ℕ} {f : Licence → ℕ} {ps : List FlatLicence} → Counted most f ps 0 0
+count-starts {most} {f} {ps} = record { inside = omega arith; small = omega arith; is = refl }
 
-module _ {f : Licence → ℕ} {ps : List FlatLicence} {i sum : ℕ} (w : Counted f ps i sum) where
-  pub count-turns : {n : ℕ} → i < length ps → n ≡ atPlace f (licenceOf (getD ps i freePlace)) → n ≤ 1 → Counted f ps (i + 1) (sum + n)
+module _ {most : ℕ} {f : Licence → ℕ} {ps : List FlatLicence} {i sum : ℕ} (w : Counted most f ps i sum) where
+  pub count-turns : {n : ℕ} → i < length ps → n ≡ atPlace f (licenceOf (getD ps i freePlace)) → n ≤ most
+      → Counted most f ps (i + 1) (sum + n)
   count-turns {n} b e s = record {
     inside = omega arith;
-    small = omega (arith, w .small);
+    small = omega (arith, w .small, mul-add most i 1, mul-one most);
     is = (λ j. w .is j + e j)
         ∙ sym (total-next (λ p. atPlace f (licenceOf p)) ps i freePlace b)
         ∙ ap (λ (k : ℕ). total (λ p. atPlace f (licenceOf p)) (take k ps)) (sym (add-one i));
@@ -209,41 +217,52 @@ module _ {ps : List FlatLicence} {n i : ℕ} {edges : List ℤ} (w : Filled ps n
 
 -- ---- the boxes that pass a test
 
-module _ (test : GeoBox → Bool) where
-  abbrev boxPasses : Licence → Bool
-  boxPasses l = isBox test (l .ground)
+module _ (test : GeoBox → Bool) (w : Licence → ℕ) where
+  -- what a licence with a box that passes adds
+  abbrev adds : Licence → ℕ
+  adds l = w l * flag (isBox test (l .ground))
 
-  -- where no box is in force, none passes
-  none-passes : (l : Licence) → passesAt hasBox l ≡ false → passesAt boxPasses l ≡ false
-  unfolding passesAt
-  none-passes l = by-test (hasSign 0 l) (λ t e. simp t) (λ t e. simp t (go (l .ground) (simp t at e)))
+  -- where no box is in force, nothing is added
+  none-adds : (l : Licence) → passesAt hasBox l ≡ false → atPlace adds l ≡ 0
+  unfolding passesAt atPlace
+  none-adds l = by-test (hasSign 0 l) (λ t e. simp t) (λ t e. simp t (go (l .ground) (simp t at e)))
     where
-      go : (g : Ground) → isBox (λ _. true) g ≡ false → isBox test g ≡ false
-      go (Area n) e = refl
+      go : (g : Ground) → isBox (λ _. true) g ≡ false → w l * flag (isBox test g) ≡ 0
+      go (Area n) e = mul-zero (w l)
       go (Box b) e = not-both refl e
 
-  -- as a sum over the licences in force counts it
-  flag-passes : (l : Licence) → flag (passesAt boxPasses l) ≡ atPlace (λ x. flag (boxPasses x)) l
-  unfolding passesAt atPlace
-  flag-passes l = by-test (hasSign 0 l) (λ t. simp t) (λ t. simp t)
-
   module _ (none : test noBox ≡ false) where
-    -- the box of a place passes where one in force does
-    place-passes : (l : Licence) → test (placeBox l) ≡ passesAt boxPasses l
-    unfolding placeBox passesAt
-    place-passes l = by-test (hasSign 0 l) (λ t. simp t none) (λ t. simp t (go (l .ground)))
+    -- the box of a place adds what one in force does
+    place-adds : (l : Licence) → w l * flag (test (placeBox l)) ≡ atPlace adds l
+    unfolding placeBox atPlace
+    place-adds l = by-test (hasSign 0 l) (λ t. simp (t, none) (mul-zero (w l))) (λ t. simp t (go (l .ground)))
       where
-        go : (g : Ground) → test (boxOf g) ≡ isBox test g
-        go (Area n) = none
+        go : (g : Ground) → w l * flag (test (boxOf g)) ≡ w l * flag (isBox test g)
+        go (Area n) = ap (λ (b : Bool). w l * flag b) none
         go (Box b) = refl
 
-    -- the boxes that are handed out and pass are those of the licences in force
-    pub boxes-total : {ps : List FlatLicence} {r : Boxes} → BoxesDone ps r →
-        count (λ i. test (boxFrom (r .edges) (r .count) i)) (r .count) ≡ total (λ l. flag (isBox test (l .ground))) (inForce ps)
-    boxes-total {ps} {r} d =
-        count-same (λ i. test (boxFrom (r .edges) (r .count) i)) (λ i. passesAt boxPasses (licenceOf (getD ps i freePlace))) (r .count)
-        (λ i b. ap test (d .edges .each i b) ∙ place-passes (licenceOf (getD ps i freePlace)))
-        ∙ count-total (λ p. passesAt boxPasses (licenceOf p)) freePlace ps (r .count)
-        (λ i b. none-passes (licenceOf (getD ps i freePlace)) (d .counts .found .past i (omega (arith, d .counts .padded, b))))
-        ∙ total-same (λ p. flag-passes (licenceOf p)) ps
-        ∙ sym (in-force-total (λ x. flag (boxPasses x)) ps)
+    -- the boxes that are handed out and pass add what those of the licences in force do
+    boxes-sum : {ps : List FlatLicence} {r : Boxes} → BoxesDone ps r → (ws : ℕ → ℕ)
+        → ((i : ℕ) → i < r .count → ws i ≡ w (licenceOf (getD ps i freePlace)))
+        → sumTo (λ i. ws i * flag (test (boxFrom (r .edges) (r .count) i))) (r .count) ≡ total adds (inForce ps)
+    boxes-sum {ps} {r} d ws e =
+        sum-same (λ i. ws i * flag (test (boxFrom (r .edges) (r .count) i))) (λ i. atPlace adds (licenceOf (getD ps i freePlace)))
+        (λ _. true) (λ _. true) (r .count)
+        (λ i b. (λ t. e i b t * flag (test (d .edges .each i b t))) ∙ place-adds (licenceOf (getD ps i freePlace)))
+        ∙ sum-total (λ p. atPlace adds (licenceOf p)) freePlace ps (r .count)
+        (λ i b. none-adds (licenceOf (getD ps i freePlace)) (d .counts .found .past i (omega (arith, d .counts .padded, b))))
+        ∙ sym (in-force-total adds ps)
+
+module _ (test : GeoBox → Bool) (none : test noBox ≡ false) {ps : List FlatLicence} {r : Boxes} (d : BoxesDone ps r) where
+  -- as many boxes that are handed out pass as licences in force have one that does
+  pub boxes-total : count (λ i. test (boxFrom (r .edges) (r .count) i)) (r .count)
+      ≡ total (λ l. flag (isBox test (l .ground))) (inForce ps)
+  boxes-total =
+      count-sum (λ i. test (boxFrom (r .edges) (r .count) i)) (r .count)
+      ∙ boxes-sum test (λ _. 1) none d (λ _. 1) (λ i b. refl)
+      ∙ total-same (λ l. one-mul (flag (isBox test (l .ground)))) (inForce ps)
+
+  -- and the widths of the ones add up to those of the others
+  pub boxes-widths : sumTo (λ i. getD (r .widths) i 0 * flag (test (boxFrom (r .edges) (r .count) i))) (r .count)
+      ≡ total (λ l. l .width * flag (isBox test (l .ground))) (inForce ps)
+  boxes-widths = boxes-sum test (λ l. l .width) none d (λ i. getD (r .widths) i 0) (d .widths .each)

@@ -1,22 +1,23 @@
 -- Laws of the licences in force, the rules and a release. Assumes nothing.
 use Prim.Native.Nat.{ℕ, zero, suc, _+_, _-_, _≤_, _<_}
 use mathlib.Core.Path.{_≡_, refl, sym, ap, _∙_}
-use mathlib.Core.Bool.{Bool, true, false, cond, not, _||_}
+use mathlib.Core.Bool.{Bool, true, false, cond, not, _||_, _&&_}
 use mathlib.Core.List.{List, [], _∷_}
 use native.Mathlib.Omega.{arith}
 use native.Mathlib.Nat.{not-suc-le-zero}
 use native.Mathlib.Numerals.{add-one}
-use lib.Dec.{leb}
+use lib.Dec.{leb, eqb}
 use lib.ListN.{length, getD, set}
 use lib.Seq.{set-getD}
 use borrow.Author.Tests.{eqb-true, eq-eqb, ne-eqb, le-leb, lt-leb, leb-true, leb-false}
-use Rattle.lists.proofs.Tests.{by-test, not-both}
+use Rattle.lists.proofs.Tests.{by-test, not-both, second-of}
 use Rattle.lists.specs.Sums.{any}
 use Rattle.register.specs.declared.Ground.{Ground}
 use Rattle.register.specs.declared.Ground.the-variants.{Area, Box}
 use Rattle.register.specs.declared.Licence.{Licence}
 use Rattle.register.specs.declared.FlatLicence.{FlatLicence}
-use Rattle.register.specs.Licences.{wellFormed, groundOf, licenceOf, flatOf, freePlace, hasSign, inForce, held, release}
+use Rattle.register.specs.Licences.{groundFormed, widthFormed, wellFormed, fullWidth, groundOf, licenceOf, flatOf, freePlace}
+use Rattle.register.specs.Licences.{hasSign, inForce, held, release}
 use Rattle.register.specs.Rules.{grantNumber, cancelNumber, grantAnswer, cancelAnswer, limit, grantRule, cancelRule}
 
 -- ---- the test for a call sign
@@ -35,15 +36,18 @@ is-sign s l e = eqb-true (l .«call_sign») s e
 
 -- ---- a licence at a place
 
--- the place that a licence takes holds just this licence
-pub flat-means : (l : Licence) → licenceOf (flatOf l) ≡ l
+-- the place that a licence of at most 50 MHz takes holds just this licence
+pub flat-means : (l : Licence) → l .width ≤ fullWidth → licenceOf (flatOf l) ≡ l
 unfolding groundOf flatOf
-flat-means l = go (l .ground)
+flat-means l h = go (l .ground)
   where
-    go : (g : Ground) → licenceOf (flatOf (record { «call_sign» = l .«call_sign»; ground = g }))
-        ≡ record { «call_sign» = l .«call_sign»; ground = g }
-    go (Area n) = refl
-    go (Box b) = refl
+    kept : fullWidth - (fullWidth - l .width) ≡ l .width
+    kept = omega arith
+
+    go : (g : Ground) → licenceOf (flatOf (record { «call_sign» = l .«call_sign»; ground = g; width = l .width }))
+        ≡ record { «call_sign» = l .«call_sign»; ground = g; width = l .width }
+    go (Area n) = λ i. record { «call_sign» = l .«call_sign»; ground = Area n; width = kept i }
+    go (Box b) = λ i. record { «call_sign» = l .«call_sign»; ground = Box b; width = kept i }
 
 -- ---- what is held
 
@@ -144,6 +148,13 @@ module _ (lines : List Licence) (l : Licence) where
 pub formed-sign : (l : Licence) → wellFormed l ≡ true → l .«call_sign» ≡ 0 → ⊥
 unfolding wellFormed
 formed-sign l w e = not-both w (simp (eq-eqb (l .«call_sign») 0 e))
+
+-- and its width is at most 50
+pub formed-width : (l : Licence) → wellFormed l ≡ true → l .width ≤ fullWidth
+unfolding wellFormed widthFormed
+formed-width l w =
+    let formed = second-of (not (eqb (l .«call_sign») 0) && groundFormed (l .ground)) (widthFormed (l .width)) w in
+    leb-true (l .width) 50 (second-of (leb 1 (l .width)) (leb (l .width) 50) formed)
 
 -- ---- the rule of a cancellation, by its two answers
 

@@ -12,11 +12,11 @@ use Rattle.lists.specs.Sums.{flag, total, any}
 use Rattle.lists.proofs.SumLaws.{length-total, any-total}
 use Rattle.register.specs.declared.Licence.{Licence}
 use Rattle.register.specs.declared.FlatLicence.{FlatLicence}
-use Rattle.register.specs.Licences.{licenceOf, flatOf, freePlace, hasSign, inForce, held, strike, release}
+use Rattle.register.specs.Licences.{wellFormed, licenceOf, flatOf, freePlace, hasSign, inForce, held, strike, release}
 use Rattle.register.specs.Rules.{grantRule, cancelRule}
 use Rattle.register.specs.Contracts.{Placed}
 use Rattle.register.specs.Sums.{SameLicences, signs, OnceEach, atPlace}
-use Rattle.register.proofs.Laws.{sign-is, sign-not, is-sign, flat-means}
+use Rattle.register.proofs.Laws.{sign-is, sign-not, is-sign, flat-means, formed-sign, formed-width}
 use Rattle.lists.proofs.Tests.{by-test}
 
 -- ---- tests and counts are sums
@@ -70,16 +70,19 @@ release-strike s (p ∷ ps) =
 
 -- a licence placed: one line more
 pub placed-total : {ps qs : List FlatLicence} {l : Licence} →
-    (l .«call_sign» ≡ 0 → ⊥) → Placed ps l qs → SameLicences (inForce qs) (l ∷ inForce ps)
-placed-total {ps} {qs} {l} n p f = rw (p .now) (go ps (p .place) (p .within) (p .wasFree))
+    wellFormed l ≡ true → Placed ps l qs → SameLicences (inForce qs) (l ∷ inForce ps)
+placed-total {ps} {qs} {l} w p f = rw (p .now) (go ps (p .place) (p .within) (p .wasFree))
   where
+    means : licenceOf (flatOf l) ≡ l
+    means = flat-means l (formed-width l w)
+
     taken : hasSign 0 (licenceOf (flatOf l)) ≡ false
-    taken = ap (hasSign 0) (flat-means l) ∙ sign-not 0 l n
+    taken = ap (hasSign 0) means ∙ sign-not 0 l (formed-sign l w)
 
     go : (ps : List FlatLicence) (k : ℕ) → k < length ps → getD ps k freePlace .«call_sign» ≡ 0 →
         total f (inForce (set ps k (flatOf l))) ≡ f l + total f (inForce ps)
     go [] k b e = absurd (not-suc-le-zero b)
-    go (p ∷ ps) zero b e = simp (sign-is 0 (licenceOf p) e, taken) (ap (λ x. f x + total f (inForce ps)) (flat-means l))
+    go (p ∷ ps) zero b e = simp (sign-is 0 (licenceOf p) e, taken) (ap (λ x. f x + total f (inForce ps)) means)
     go (p ∷ ps) (suc k) b e =
         let h = go ps k (omega arith) e in
         by-test (hasSign 0 (licenceOf p)) (λ t. simp t h) (λ t. simp t (omega arith))

@@ -8,20 +8,26 @@ use lib.IntN.{ℤ, pos, negℤ}
 use Rattle.register.specs.declared.Ground.the-variants.{Area, Box}
 use Rattle.register.specs.declared.Licence.{Licence}
 use Rattle.register.specs.Licences.{
+  fullLicence,
   boxFormed,
   groundFormed,
+  widthFormed,
   wellFormed,
   hasSign,
 }
 use Rattle.register.specs.Rules.{grantRule, cancelRule}
 
--- a licence by its call sign and its area
+-- a licence of 50 MHz by its call sign and its area
 abbrev pub ofArea : ℕ → ℕ → Licence
-ofArea s n = record { «call_sign» = s; ground = Area n }
+ofArea s n = fullLicence s (Area n)
 
--- a licence of call sign 1 by the edges of its box: south, north, west, east
+-- a licence for area 1 by its call sign and its width
+abbrev pub ofWidth : ℕ → ℕ → Licence
+ofWidth s w = record { «call_sign» = s; ground = Area 1; width = w }
+
+-- a licence of 50 MHz and call sign 1 by the edges of its box: south, north, west, east
 abbrev pub ofBox : ℤ → ℤ → ℤ → ℤ → Licence
-ofBox s n w e = record { «call_sign» = 1; ground = Box (record { south = s; north = n; west = w; east = e }) }
+ofBox s n w e = fullLicence 1 (Box (record { south = s; north = n; west = w; east = e }))
 
 -- lines with the call signs 1 to n
 abbrev pub lines : ℕ → List Licence
@@ -56,13 +62,20 @@ grantRows =
     grants [] (ofBox (negℤ (pos 32_400_000)) (pos 32_400_001) (negℤ (pos 64_800_000)) (pos 64_800_000)) 6 ∷
     grants [] (ofBox (negℤ (pos 32_400_000)) (pos 32_400_000) (negℤ (pos 64_800_001)) (pos 64_800_000)) 6 ∷
     grants [] (ofBox (negℤ (pos 32_400_000)) (pos 32_400_000) (negℤ (pos 64_800_000)) (pos 64_800_001)) 6 ∷
+    -- document 02, Paper 4: widths at the ends of 1 to 50, and one past each
+    grants [] (ofWidth 1 0) 6 ∷
+    grants [] (ofWidth 1 1) 0 ∷
+    grants [] (ofWidth 1 50) 0 ∷
+    grants [] (ofWidth 1 51) 6 ∷
     -- 9, and 6 before 9
     grants (lines 3) (ofArea 3 1) 9 ∷
     grants (lines 3) (ofArea 3 0) 6 ∷
+    grants (lines 3) (ofWidth 3 51) 6 ∷
     -- 10, 9 before 10, 6 before 10, and the last licence that has room
     grants (lines 64) (ofArea 65 1) 10 ∷
     grants (lines 64) (ofArea 64 1) 9 ∷
     grants (lines 64) (ofArea 65 0) 6 ∷
+    grants (lines 64) (ofWidth 65 0) 6 ∷
     grants (lines 63) (ofArea 65 1) 0 ∷ []
 
 -- every row has the number that the rule gives
@@ -71,7 +84,7 @@ grantsRight [] = true
 grantsRight (grants ls l n ∷ rows) = eqb (grantRule ls l) n && grantsRight rows
 
 pub grants-right : grantsRight grantRows ≡ true
-unfolding grantRule wellFormed groundFormed boxFormed hasSign
+unfolding grantRule wellFormed groundFormed boxFormed widthFormed hasSign
 grants-right = refl
 
 -- the lines, the call sign to cancel, and the number that comes

@@ -1,5 +1,5 @@
 -- Document 01, "Coverage and blocks": what a sum over an area's cells reads of the licences in force: how many have the area as their
--- ground, and the boxes of the others. Assumes nothing.
+-- ground, and the boxes of the others; document 02, Paper 4: the widths of both. Assumes nothing.
 use Prim.Native.Nat.{ℕ, _+_, _*_, _-_, _/_, _≤_, _<_}
 use mathlib.Core.Path.{_≡_}
 use mathlib.Core.Bool.{Bool, true, false, cond}
@@ -12,8 +12,10 @@ use Rattle.register.specs.declared.Ground.{Ground}
 use Rattle.register.specs.declared.Ground.the-variants.{Area, Box}
 use Rattle.register.specs.declared.Licence.{Licence}
 use Rattle.register.specs.declared.FlatLicence.{FlatLicence}
+use Rattle.lists.specs.Sums.{total, flag}
+use Rattle.register.specs.declared.Naming.{Naming}
 use Rattle.register.specs.declared.Boxes.{Boxes}
-use Rattle.register.specs.Licences.{licenceOf, freePlace, hasSign}
+use Rattle.register.specs.Licences.{licenceOf, freePlace, hasSign, inForce}
 use Rattle.register.specs.Sums.{passesAt}
 
 -- "A PEA ground covers every cell of that area": the ground is the area of a number
@@ -24,6 +26,13 @@ isArea number (Box b) = false
 -- the licence's ground is the area of a number
 abbrev pub names : ℕ → Licence → Bool
 names number l = isArea number (l .ground)
+
+-- document 02, Paper 4: "the sum of width × people covered": what `naming` counts and adds of the licences that cover every cell
+pub record NamingDone (number : ℕ) (places : List FlatLicence) (r : Naming) : Type 0 where
+  pub licences : r .licences ≡ total (λ l. flag (names number l)) (inForce places)
+  pub width : r .width ≡ total (λ l. l .width * flag (names number l)) (inForce places)
+  pub few : r .licences ≤ 64
+  pub most : r .width ≤ 3200
 
 -- the ground is a box that passes a test
 abbrev pub isBox : (GeoBox → Bool) → Ground → Bool
@@ -74,7 +83,14 @@ pub record EdgesDone (places : List FlatLicence) (n : ℕ) (edges : List ℤ) : 
   pub each : (i : ℕ) → i < n → boxFrom edges n i ≡ placeBox (licenceOf (getD places i freePlace))
   pub rest : (k : ℕ) → 4 * n ≤ k → getD edges k (pos 0) ≡ pos 0
 
+-- document 02, Paper 4: the widths of what stands at the first n places, and 0 past them
+pub record WidthsDone (places : List FlatLicence) (n : ℕ) (widths : List ℕ) : Type 0 where
+  pub size : length widths ≡ 64
+  pub each : (i : ℕ) → i < n → getD widths i 0 ≡ licenceOf (getD places i freePlace) .width
+  pub rest : (i : ℕ) → n ≤ i → getD widths i 0 ≡ 0
+
 -- what `boxes` hands out of the places
 pub record BoxesDone (places : List FlatLicence) (r : Boxes) : Type 0 where
   pub counts : PaddedTo8 places (r .count)
   pub edges : EdgesDone places (r .count) (r .edges)
+  pub widths : WidthsDone places (r .count) (r .widths)

@@ -1,15 +1,16 @@
-// Document 01, "The register": the licences in force, and what a grant and a cancellation do to them. naming and boxes hand out
-// what the crates above count people by.
+// Document 01, "The register": the licences in force, and what a grant and a cancellation do to them; document 02, Paper 4: their
+// widths. naming and boxes hand out what the crates above count people by.
 ghost use mathlib.Core.Path.{_≡_};
 ghost use mathlib.Core.Bool.{cond, not};
 ghost use lib.Dec.{leb, eqb};
-ghost use Prim.Native.Nat.{_≤_};
-ghost use Rattle.lists.specs.Sums.{total, flag};
-ghost use Rattle.register.specs.Licences.{boxFormed, groundFormed, wellFormed, groundOf, licenceOf, flatOf, inForce};
+ghost use Prim.Native.Nat.{_-_, _≤_};
+ghost use Rattle.lists.specs.Sums.{flag};
+ghost use Rattle.register.specs.Licences.{fullWidth, fullLicence, boxFormed, groundFormed, widthFormed, wellFormed};
+ghost use Rattle.register.specs.Licences.{groundOf, licenceAtWidth, licenceOf, flatOf};
 ghost use Rattle.register.specs.Rules.{grantNumber, cancelNumber, grantAnswer, cancelAnswer, limit};
 ghost use Rattle.register.specs.Sums.{atPlace, passesAt};
 ghost use Rattle.register.specs.Contracts.{EmptyDone, GrantDone, CancelDone, GrantStep, CancelStep};
-ghost use Rattle.register.specs.Grounds.{names, hasBox, placeBox, LastBox, EdgesDone, BoxesDone};
+ghost use Rattle.register.specs.Grounds.{names, NamingDone, hasBox, placeBox, LastBox, EdgesDone, WidthsDone, BoxesDone};
 
 // A box of latitudes and longitudes, in hundredths of an arc second. Degrees south and west are negative.
 pub struct GeoBox {
@@ -25,20 +26,22 @@ pub enum Ground {
     Box(GeoBox),
 }
 
-// A licence, as its grant gives it.
+// A licence, as its grant gives it. The width is in MHz.
 pub struct Licence {
     pub call_sign: u32,
     pub ground: Ground,
+    pub width: u32,
 }
 
 // A licence laid out in plain numbers, as it stands at a place of the register and as callers in C hand it over. Kind 0 is an area and
-// kind 1 a box; any other kind is an ill-formed ground, which covers nothing. There is no padding.
+// kind 1 a box; any other kind is an ill-formed ground, which covers nothing. A place keeps how many MHz its licence is narrower than 50,
+// so one that was kept before licences had widths, with 0 there, is 50 MHz wide as it was. There is no padding.
 #[repr(C)]
 pub struct FlatLicence {
     pub call_sign: u32,
     pub area: u16,
     pub kind: u8,
-    pub unused: u8,
+    pub narrower_by: u8,
     pub south: i32,
     pub north: i32,
     pub west: i32,
@@ -84,11 +87,35 @@ pub struct Cancelled {
     pub answer: CancelAnswer,
 }
 
+// How many licences in force have an area as their ground, and their widths added.
+pub struct Naming {
+    pub licences: u32,
+    pub width: u32,
+}
+
 // The boxes of the licences in force, one for each of the first count places, a multiple of 8: the souths at 0, the norths at count,
 // the wests at 2 * count and the easts at 3 * count. A place without a box in force has one with all edges 0, which covers nothing.
+// The widths are those of what stands at the first count places, whether it is in force or not.
 pub struct Boxes {
     pub count: usize,
     pub edges: [i32; 256],
+    pub widths: [u8; 64],
+}
+
+impl Licence {
+    // The width of a licence that is granted without one.
+    pub const FULL_WIDTH: u32 = 50;
+
+    // The licence that is granted without a width.
+    pub fn full(call_sign: u32, ground: Ground) -> Self
+        ensures { λ r. ⌜ r ≡ fullLicence «call_sign» ground ⌝ }
+    {
+        Licence {
+            call_sign,
+            ground,
+            width: Self::FULL_WIDTH,
+        }
+    }
 }
 
 impl GrantAnswer {
@@ -144,13 +171,14 @@ impl FlatLicence {
     pub fn of(l: Licence) -> Self
         ensures { λ r. ⌜ r ≡ flatOf l ⌝ }
     {
+        let narrower_by = narrower_by(l.width);
         let g = l.ground;
         match g {
             Ground::Area(number) => FlatLicence {
                 call_sign: l.call_sign,
                 area: number,
                 kind: 0,
-                unused: 0,
+                narrower_by,
                 south: 0,
                 north: 0,
                 west: 0,
@@ -160,7 +188,7 @@ impl FlatLicence {
                 call_sign: l.call_sign,
                 area: 0,
                 kind: 1,
-                unused: 0,
+                narrower_by,
                 south: b.south,
                 north: b.north,
                 west: b.west,
@@ -173,9 +201,28 @@ impl FlatLicence {
     pub fn licence(self) -> Licence
         ensures { λ r. ⌜ r ≡ licenceOf self ⌝ }
     {
+        self.granted(self.width() as u32)
+    }
+
+    // The licence at a width, whatever width the place keeps: what a caller in C lays out in plain numbers and grants.
+    pub fn granted(self, width: u32) -> Licence
+        ensures { λ r. ⌜ r ≡ licenceAtWidth self width ⌝ }
+    {
         Licence {
             call_sign: self.call_sign,
             ground: self.ground(),
+            width,
+        }
+    }
+
+    // The width of the licence that stands at the place: 0 where it is narrower by 50 or more.
+    fn width(self) -> u8
+        ensures { λ r. ⌜ r ≡ fullWidth - self .«narrower_by» ⌝ }
+    {
+        if self.narrower_by < 50 {
+            50 - self.narrower_by
+        } else {
+            0
         }
     }
 
@@ -207,7 +254,7 @@ impl Register {
         call_sign: 0,
         area: 0,
         kind: 0,
-        unused: 0,
+        narrower_by: 0,
         south: 0,
         north: 0,
         west: 0,
@@ -296,18 +343,22 @@ impl Register {
         }
     }
 
-    // How many licences in force have the area of a number as their ground.
-    pub fn naming(self, number: u16) -> u32
-        ensures { λ r. ⌜ (r ≡ total (λ l. flag (names number l)) (inForce (self .places))) × (r ≤ 64) ⌝ }
+    // How many licences in force have the area of a number as their ground, and their widths added.
+    pub fn naming(self, number: u16) -> Naming
+        ensures { λ r. ⌜ NamingDone number (self .places) r ⌝ }
     {
-        let mut count: u32 = 0;
+        let mut licences: u32 = 0;
+        let mut width: u32 = 0;
         let mut k = 0;
         while k < Self::LIMIT {
             let p = self.places[k];
-            count += names_area(p.licence(), number);
+            let l = p.licence();
+            let named = names_area(l, number);
+            licences += named;
+            width += l.width * named;
             k += 1;
         }
-        count
+        Naming { licences, width }
     }
 
     // The boxes of the licences in force, up to the last place that has one, so that few licences cost few tests for a cell. The loop
@@ -317,7 +368,12 @@ impl Register {
     {
         let count = (self.last_box() + 7) / 8 * 8;
         let edges = self.edges(count);
-        Boxes { count, edges }
+        let widths = self.widths(count);
+        Boxes {
+            count,
+            edges,
+            widths,
+        }
     }
 
     // One more than the last place with a box in force, 0 where no place has one.
@@ -356,6 +412,21 @@ impl Register {
             i += 1;
         }
         edges
+    }
+
+    // The widths of what stands at the first count places.
+    fn widths(self, count: usize) -> [u8; 64]
+        requires { ⌜ count ≤ 64 ⌝ }
+        ensures { λ r. ⌜ WidthsDone (self .places) count r ⌝ }
+    {
+        let mut widths = [0u8; 64];
+        let mut i = 0;
+        while i < count {
+            let p = self.places[i];
+            widths[i] = p.width();
+            i += 1;
+        }
+        widths
     }
 }
 
@@ -415,7 +486,14 @@ fn ground_formed(g: Ground) -> bool
     }
 }
 
-// Whether a licence is well formed: its call sign is not 0, and its ground is well formed.
+// Whether a width is well formed.
+fn width_formed(width: u32) -> bool
+    ensures { λ r. ⌜ r ≡ widthFormed width ⌝ }
+{
+    1 <= width && width <= 50
+}
+
+// Whether a licence is well formed: its call sign is not 0, and its ground and its width are well formed.
 fn well_formed(l: Licence) -> bool
     ensures { λ r. ⌜ r ≡ wellFormed l ⌝ }
 {
@@ -423,7 +501,18 @@ fn well_formed(l: Licence) -> bool
         return false;
     }
     let g = l.ground;
-    ground_formed(g)
+    ground_formed(g) & width_formed(l.width)
+}
+
+// How many MHz a width is narrower than 50, 0 where it is not.
+fn narrower_by(width: u32) -> u8
+    ensures { λ r. ⌜ r ≡ fullWidth - width ⌝ }
+{
+    if width < Licence::FULL_WIDTH {
+        (Licence::FULL_WIDTH - width) as u8
+    } else {
+        0
+    }
 }
 
 // 1 if what stands at a place is in force and has the area of a number as its ground, else 0.

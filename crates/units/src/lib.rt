@@ -1,6 +1,6 @@
-// People, cells and weighted MHz-pops: units with names of their own (document 01, "Coverage and blocks"; document 02, Paper 1). Sums and
-// tests take one of them with itself, so no sum mixes them. The one bridge is People::weighted: people × weight × MHz are weighted
-// MHz-pops.
+// People, cells, MHz-pops and weighted MHz-pops: units with names of their own (document 01, "Coverage and blocks"; document 02, Papers 1
+// and 4). Sums and tests take one of them with itself, so no sum mixes them. The bridges are People::mhz_pops, MHz × people;
+// MhzPops::weighted, weight × MHz-pops; and People::weighted, both at once.
 // Coordinates are plain i32, in hundredths of an arc second.
 ghost use mathlib.Core.Path.{_≡_};
 ghost use Prim.Native.Nat.{_+_, _*_};
@@ -13,6 +13,9 @@ pub struct People(pub u64);
 
 // A count of cells.
 pub struct Cells(pub u64);
+
+// An amount of MHz-pops: MHz × people.
+pub struct MhzPops(pub u64);
 
 // An amount of weighted MHz-pops: MHz × weight × people.
 pub struct Weighted(pub u64);
@@ -35,11 +38,11 @@ fn product(a: u64, b: u64) -> u64
 }
 
 impl People {
-    // These people counted so many times, which stop at the largest u64.
-    pub fn times(self, times: u32) -> Self
-        ensures { λ r. ⌜ r .0 ≡ capped (times * self .0) ⌝ }
+    // The MHz-pops of these people over so many MHz, which stop at the largest u64.
+    pub fn mhz_pops(self, mhz: u32) -> MhzPops
+        ensures { λ r. ⌜ r .0 ≡ capped (mhz * self .0) ⌝ }
     {
-        People(product(times as u64, self.0))
+        MhzPops(product(mhz as u64, self.0))
     }
 
     // The weighted MHz-pops of these people over so many MHz at a weight, which stop at the largest u64.
@@ -74,6 +77,27 @@ impl Cells {
         ensures { λ r. ⌜ r .0 ≡ capped (self .0 + other .0) ⌝ }
     {
         Cells(sum(self.0, other.0))
+    }
+}
+
+impl MhzPops {
+    // The weighted MHz-pops of these at a weight, which stop at the largest u64.
+    pub fn weighted(self, weight: u32) -> Weighted
+        ensures { λ r. ⌜ r .0 ≡ capped (weight * self .0) ⌝ }
+    {
+        Weighted(product(weight as u64, self.0))
+    }
+
+    pub fn plus(self, other: Self) -> Self
+        ensures { λ r. ⌜ r .0 ≡ capped (self .0 + other .0) ⌝ }
+    {
+        MhzPops(sum(self.0, other.0))
+    }
+
+    pub fn at_most(self, other: Self) -> bool
+        ensures { λ r. ⌜ r ≡ leb (self .0) (other .0) ⌝ }
+    {
+        self.0 <= other.0
     }
 }
 

@@ -73,7 +73,7 @@ pub fn heading() -> String {
 }
 
 /// The works, in the order of the table.
-const WORKS: [fn() -> Result<Row, Disagreement>; 17] = [
+const WORKS: [fn() -> Result<Row, Disagreement>; 19] = [
     || check_map("check of the largest map, 6,357,249 bytes", &holdings::largest(0)),
     || coverage("coverage of one area, largest map, 64 boxes", &holdings::largest(LICENCES), 1),
     || propose("proposal, largest map, no box", &holdings::largest(0)),
@@ -82,6 +82,7 @@ const WORKS: [fn() -> Result<Row, Disagreement>; 17] = [
     || propose("proposal, largest map, 8 boxes", &holdings::largest(8)),
     || propose("proposal, largest map, 63 boxes", &holdings::largest(63)),
     || propose("proposal, largest map, 64 boxes", &holdings::largest(LICENCES)),
+    || propose("proposal, largest map, 64 boxes of different widths", &holdings::largest_narrow()),
     || propose("proposal, as large, 64 boxes that cut every row", &holdings::largest_cut()),
     twenty_partial,
     || footprint("footprint, largest map, 2 rings and a last one", &holdings::few_rings()),
@@ -90,6 +91,7 @@ const WORKS: [fn() -> Result<Row, Disagreement>; 17] = [
     || footprint("footprint, shrinking by 63 rings and a last one", &holdings::shrinking()),
     || footprint("footprint, last ring of 500 cells, slack 1,000,999", &holdings::last_ring()),
     || grant("grant, 32 licences in force"),
+    || grant_width("grant of 20 MHz, 32 licences in force"),
     || cancel("cancellation, 32 licences in force"),
 ];
 
@@ -129,20 +131,47 @@ fn footprint(work: &'static str, on: &Holdings) -> Result<Row, Disagreement> {
 
 fn grant(work: &'static str) -> Result<Row, Disagreement> {
     let (register, licence) = (holdings::half_full(), holdings::new_licence());
-    step(work, raw::codwalet_grant, plain::grant, register, licence)
+    step::<_, With<Licence>>(work, raw::codwalet_grant, plain::grant, register, licence)
+}
+
+fn grant_width(work: &'static str) -> Result<Row, Disagreement> {
+    let (register, licence) = (holdings::half_full(), holdings::new_licence());
+    step::<_, WithWidth>(work, raw::codwalet_grant_width, plain::grant_width, register, (licence, 20))
 }
 
 fn cancel(work: &'static str) -> Result<Row, Disagreement> {
-    step(work, raw::codwalet_cancel, plain::cancel, holdings::half_full(), 17)
+    step::<_, With<u32>>(work, raw::codwalet_cancel, plain::cancel, holdings::half_full(), 17)
 }
 
 /// A grant of a licence, or a cancellation of a call sign.
-type Stepping<A> = extern "C" fn(Register, A) -> Step;
+type With<A> = extern "C" fn(Register, A) -> Step;
+/// A grant of a licence with a width.
+type WithWidth = extern "C" fn(Register, Licence, u32) -> Step;
 
-fn step<A: Copy>(
+/// A call that takes a register and hands back the next one.
+trait Stepping<A>: Copy {
+    fn step(self, current: Register, argument: A) -> Step;
+}
+
+impl<A> Stepping<A> for With<A> {
+    #[inline(always)]
+    fn step(self, current: Register, argument: A) -> Step {
+        self(current, argument)
+    }
+}
+
+impl Stepping<(Licence, u32)> for WithWidth {
+    #[inline(always)]
+    fn step(self, current: Register, (licence, width): (Licence, u32)) -> Step {
+        self(current, licence, width)
+    }
+}
+
+/// The engine's call and the plain one have the same type, that of a pointer.
+fn step<A: Copy, S: Stepping<A>>(
     work: &'static str,
-    engine: Stepping<A>,
-    plain: Stepping<A>,
+    engine: S,
+    plain: S,
     register: Register,
     argument: A,
 ) -> Result<Row, Disagreement> {
@@ -176,12 +205,12 @@ fn in_force(register: &Register) -> Vec<Licence> {
 /// Many calls of a grant or a cancellation, and what the last one comes to. Both sides are called from this same code,
 /// so that the caller's own copies are the same.
 #[inline(never)]
-fn stepped<A: Copy>(call: Stepping<A>, register: Register, argument: A) -> (Duration, (u32, Vec<Licence>)) {
+fn stepped<A: Copy>(call: impl Stepping<A>, register: Register, argument: A) -> (Duration, (u32, Vec<Licence>)) {
     let (time, step) = timed(|| {
         for _ in 1..CALLS {
-            black_box(call(black_box(register), black_box(argument)));
+            black_box(call.step(black_box(register), black_box(argument)));
         }
-        call(register, argument)
+        call.step(register, argument)
     });
     (time, (step.refusal, in_force(&step.next)))
 }
@@ -295,6 +324,23 @@ mod tests {
         let covered = plain::coverage(&on.map, on.register, 1);
         assert_eq!((covered.cells, covered.refusal), (cells as u64, 0));
         assert_eq!(plain::coverage(&on.map, on.register, 9).cells, 0);
+    }
+
+    /// The boxes of the largest map in their first area, each alone at 50 MHz, add to what all have at their widths. By
+    /// hand: the 1st, 9th, 17th box and so on have 50, 42, 34, 26, 18, 10, 2 and 44 MHz.
+    #[test]
+    fn coverage_is_by_widths() {
+        let (on, full) = (holdings::largest_narrow(), holdings::largest(LICENCES));
+        let alone = |place: usize| {
+            let mut register = Register { places: [Licence::default(); LICENCES] };
+            register.places[0] = full.register.places[place];
+            plain::coverage(&full.map, register, 1).mhz_pops
+        };
+        let widths = [50, 42, 34, 26, 18, 10, 2, 44];
+        let by_width: u64 = (0..8).map(|n| widths[n] * alone(8 * n) / 50).sum();
+        let covered = plain::coverage(&on.map, on.register, 1);
+        assert_eq!(covered.mhz_pops, by_width);
+        assert_eq!(covered.cells, plain::coverage(&full.map, full.register, 1).cells);
     }
 
     #[test]

@@ -10,6 +10,7 @@ mod grants;
 mod lists;
 mod maps;
 mod proposals;
+mod widths;
 
 use std::error::Error;
 use std::fmt;
@@ -75,6 +76,8 @@ impl Cases {
         footprints::add(&mut cases, &mut random);
         lists::add(&mut cases, &mut random);
         cells::add(&mut cases);
+        widths::add(&mut cases, &mut random);
+        lists::add_widths(&mut cases, &mut random);
         cases
     }
 
@@ -88,7 +91,11 @@ impl Cases {
     }
 
     fn grant(&mut self, call_sign: u32, ground: Ground) {
-        self.add(Case::Grant(Licence { call_sign, ground }));
+        self.add(Case::Grant(Licence::without_width(call_sign, ground)));
+    }
+
+    fn grant_width(&mut self, call_sign: u32, ground: Ground, width: u32) {
+        self.add(Case::GrantWidth(Licence { call_sign, ground, width }));
     }
 
     fn cancel(&mut self, call_sign: u32) {
@@ -98,6 +105,15 @@ impl Cases {
     /// The licences in force after the cases so far.
     fn ledger(&self) -> &[Licence] {
         &self.ledger
+    }
+
+    /// The lines with a name that some cases print, without it.
+    #[cfg(test)]
+    fn printed(add: fn(&mut Cases), name: &str) -> Vec<String> {
+        let mut cases = Cases::default();
+        add(&mut cases);
+        let lines = cases.played.iter().flat_map(|played| played.lines.lines());
+        lines.filter_map(|line| line.strip_prefix(name)).map(str::to_string).collect()
     }
 }
 
@@ -219,6 +235,6 @@ mod tests {
             cases.empty();
         }
         let too_long = File::stdin(&cases).err().map(|problem| problem.to_string());
-        assert_eq!(too_long.as_deref(), Some("131073 bytes of cases; the program reads 131072"));
+        assert_eq!(too_long.as_deref(), Some("196609 bytes of cases; the program reads 196608"));
     }
 }

@@ -41,7 +41,7 @@ fn reference_licence(licence: &Licence) -> reference::Licence {
         Ground::Box(GeoBox { south, north, west, east }) => reference::Ground::Box { south, north, west, east },
         other => unreachable!("no test grants for {other:?}"),
     };
-    reference::Licence { call_sign: licence.call_sign(), ground }
+    reference::Licence::without_width(licence.call_sign(), ground)
 }
 
 #[test]

@@ -121,18 +121,18 @@ impl Drawing {
         value_of(self.weight, self.count(|place| self.footprint[place]).people)
     }
 
-    /// The licences for boxes, by call sign.
-    fn boxes(&self) -> impl Iterator<Item = (u32, GeoBox)> + '_ {
+    /// The licences for boxes, by call sign, with their boxes.
+    fn boxes(&self) -> impl Iterator<Item = (Licence, GeoBox)> + '_ {
         self.licences.iter().filter_map(|licence| match licence.ground() {
-            Ground::Box(edges) => Some((licence.call_sign(), edges)),
+            Ground::Box(edges) => Some((*licence, edges)),
             _ => None,
         })
     }
 
-    /// The call signs of the licences for the whole area.
-    fn whole_area(&self) -> impl Iterator<Item = u32> + '_ {
+    /// The licences for the whole area, by call sign.
+    fn whole_area(&self) -> impl Iterator<Item = Licence> + '_ {
         let for_area = |licence: &&Licence| matches!(licence.ground(), Ground::Area(_));
-        self.licences.iter().filter(for_area).map(|licence| licence.call_sign())
+        self.licences.iter().filter(for_area).copied()
     }
 
     /// The marks that are on the drawing, with their cells.

@@ -2,8 +2,8 @@
 //!
 //! ```text
 //! map FILE                                     # a map's bytes, or CSV text; relative to the plan's folder
-//! grant CALLSIGN area NUMBER
-//! grant CALLSIGN box SOUTH NORTH WEST EAST
+//! grant CALLSIGN area NUMBER [width MHZ]
+//! grant CALLSIGN box SOUTH NORTH WEST EAST [width MHZ]
 //! cancel CALLSIGN
 //! coverage NUMBER
 //! blocks NUMBER

@@ -40,7 +40,7 @@ fn run(plan: &str, words: &[&str], stored: &str) {
 
 #[test]
 fn plans_answer_as_stored() {
-    assert_eq!(plans(), ["islands", "tie", "two-areas"]);
+    assert_eq!(plans(), ["islands", "slices", "tie", "two-areas"]);
     for plan in plans() {
         run(&plan, &[], &format!("{plan}.txt"));
         run(&plan, &["--json"], &format!("{plan}.json"));
@@ -85,7 +85,7 @@ fn names_of_json_fields_are_explained() {
     for name in names(&json) {
         assert!(PLANS.contains(&format!("`{name}`")), "docs/PLANS.md lacks `{name}`");
     }
-    for name in ["line", "note", "reason", "byte", "accepted", "cells"] {
+    for name in ["line", "note", "reason", "byte", "accepted", "cells", "width", "mhz_pops"] {
         assert!(names(&json).any(|other| other == name), "no object has `{name}`");
     }
 }

@@ -26,7 +26,6 @@ Grant 5 area 7                 | 'Grant' is not map, grant, cancel, coverage, bl
 grant                          | 'grant' must be followed by CALLSIGN
 grant 5 # area 7               | '5' must be followed by area or box
 grant 5 arae 7                 | 'arae' stands where area or box is due
-grant 5 area 7 8               | '8' is a word too many
 grant 5 area 7#8               | NUMBER '7#8' is not an unsigned whole number
 grant x area 7                 | CALLSIGN 'x' is not an unsigned whole number
 grant -5 area 7                | CALLSIGN '-5' is not an unsigned whole number
@@ -48,6 +47,33 @@ map \"good.csv                  | '\"good.csv' starts with a quote and none ends
 map \"good\".csv                | 'good' goes on behind its closing quote
 ";
 
+/// Lines whose width is wrong or stands elsewhere than behind a ground.
+const WRONG_WIDTHS: &str = "\
+grant 5 area 7 8                               | '8' stands where width or nothing is due
+grant 5 area 7 Width 20                        | 'Width' stands where width or nothing is due
+grant 5 area 7 20 width                        | '20' stands where width or nothing is due
+grant 5 width 20 area 7                        | 'width' stands where area or box is due
+grant width 20 5 area 7                        | CALLSIGN 'width' is not an unsigned whole number
+grant 5 area width 20                          | NUMBER 'width' is not an unsigned whole number
+grant 5 area 7 width                           | 'width' must be followed by MHZ
+grant 5 area 7 width # 20                      | 'width' must be followed by MHZ
+grant 5 area 7 width x                         | MHZ 'x' is not an unsigned whole number
+grant 5 area 7 width 20MHz                     | MHZ '20MHz' is not an unsigned whole number
+grant 5 area 7 width 12.5                      | MHZ '12.5' is not an unsigned whole number
+grant 5 area 7 width -1                        | MHZ '-1' is not an unsigned whole number
+grant 5 area 7 width \"\"                        | MHZ '' is not an unsigned whole number
+grant 5 area 7 width width                     | MHZ 'width' is not an unsigned whole number
+grant 5 area 7 width 4294967296                | MHZ '4294967296' is not within 0 to 4294967295
+grant 5 area 7 width 20 20                     | '20' is a word too many
+grant 5 area 7 width 20 width 20               | 'width' is a word too many
+grant 5 box 39N 40N 101W 100W 20               | '20' stands where width or nothing is due
+grant 5 box 39N 40N 101W 100W width            | 'width' must be followed by MHZ
+grant 5 box 39N 40N 101W 100W width x          | MHZ 'x' is not an unsigned whole number
+grant 5 box 39N 40N 101W 100W width 5 width 5  | 'width' is a word too many
+cancel 5 width 20                              | 'width' is a word too many
+coverage 7 width 20                            | 'width' is a word too many
+";
+
 /// Runs a plan with a wrong line 4, and sees that it is named and nothing is done.
 fn assert_named(name: &str, line: &str, said: &str) {
     let plan = format!("map good.csv\ngrant 1 area 7\nfootprint 0 svg it.svg\n{line}\n");
@@ -59,7 +85,7 @@ fn assert_named(name: &str, line: &str, said: &str) {
 
 #[test]
 fn wrong_lines_are_named() {
-    for (index, (line, said)) in rows(WRONG_LINES).enumerate() {
+    for (index, (line, said)) in rows(WRONG_LINES).chain(rows(WRONG_WIDTHS)).enumerate() {
         assert_named(&format!("line-{index}"), line, said);
     }
 }
@@ -71,6 +97,8 @@ fn the_rule_for_coordinates_is_in_the_message() {
         let line = format!("grant 5 box {word} 40N 101W 100W");
         assert_named("coordinate", &line, &format!("SOUTH '{word}' is no coordinate: {rule}"));
     }
+    let line = "grant 5 box 39N 40N 101W width 20";
+    assert_named("coordinate", line, &format!("EAST 'width' is no coordinate: {rule}"));
     let line = "grant 5 box 0 1 2 2147483648";
     assert_named("coordinate", line, &format!("EAST '2147483648' is not within -2147483648 to 2147483647: {rule}"));
 }
@@ -125,7 +153,7 @@ fn refusals_are_answers() {
 }
 
 /// Ill-formed licences.
-const ILL_FORMED: [&str; 7] = [
+const ILL_FORMED: [&str; 12] = [
     "grant 0 area 7",
     "grant 1 area 0",
     "grant 1 area 417",
@@ -133,18 +161,32 @@ const ILL_FORMED: [&str; 7] = [
     "grant 1 box 39N 40N 100W 100W",
     "grant 1 box 39N 91N 101W 100W",
     "grant 1 box 39N 40N 181W 100W",
+    "grant 1 area 7 width 0",
+    "grant 1 area 7 width 51",
+    "grant 1 area 7 width 306",
+    "grant 1 area 7 width 4294967295",
+    "grant 1 box 39N 40N 101W 100W width 51",
 ];
 
 #[test]
 fn refusal_6_comes_with_its_reason() {
     for line in ILL_FORMED {
         let (folder, ended) = run("reason", line);
-        let words = "refused, 6: the call sign is 0, or the ground is ill-formed (";
-        let (_, reason) = ended.out.split_once(words).unwrap_or_else(|| panic!("{line}: {}", ended.out));
+        let words = "the call sign is 0, the ground is ill-formed, or the width is not 1 to 50";
+        let start = format!("refused, 6: {words} (");
+        let (_, reason) = ended.out.split_once(&start).unwrap_or_else(|| panic!("{line}: {}", ended.out));
         let reason = reason.strip_suffix(")\n").expect("the reason is in brackets");
         assert_eq!(ended.said(), (Some(0), ""));
         let json = codwalet(&folder, &["run", "it.plan", "--json"]).out;
-        let refusal = r#""refusal":{"number":6,"words":"the call sign is 0, or the ground is ill-formed","reason":"#;
-        assert!(json.ends_with(&format!("{refusal}\"{reason}\"}}}}\n")), "{json}");
+        let refusal = format!("\"refusal\":{{\"number\":6,\"words\":\"{words}\",\"reason\":\"{reason}\"}}}}\n");
+        assert!(json.ends_with(&refusal), "{json}");
+    }
+}
+
+#[test]
+fn a_bad_width_is_named_in_the_reason() {
+    for (width, named) in [("0", "width 0"), ("0051", "width 51"), ("4294967295", "width 4294967295")] {
+        let (_, ended) = run("width", &format!("grant 1 area 7 width {width}"));
+        assert!(ended.out.ends_with(&format!("({named} is not within 1 to 50 MHz)\n")), "{}", ended.out);
     }
 }

@@ -28,6 +28,20 @@ fn a_terminal_shows_each_mark() {
     assert_eq!(terminal(&draw(ONE_ROW, &one_licence())), lines);
 }
 
+/// The 7 people of columns 2 and 3 under 1 to 50 MHz: the ring starts from both cells, whatever the width, and goes with the mask.
+#[test]
+fn the_last_ring_of_a_narrow_licence_goes_with_the_mask() {
+    for mhz in 1..=50 {
+        let drawing = draw(ONE_ROW, &one_licence().map(|licence| licence.with_width(mhz)));
+        assert_eq!(
+            (drawing.share.0, drawing.covered.as_slice()),
+            (7 * u64::from(mhz), &[false, false, true, true, false][..])
+        );
+        assert_eq!(drawing.last_ring.as_ref(), Some(&drawing.covered), "{mhz} MHz");
+        assert!(drawing.carries() >= drawing.share, "{mhz} MHz");
+    }
+}
+
 #[test]
 fn a_mask_that_no_ring_leads_to_is_drawn_alone() {
     let mut drawing = draw(ONE_ROW, &one_licence());
@@ -92,9 +106,9 @@ fn is_on_grid(element: &Element) -> bool {
 fn each_licence_is_listed_once() {
     for case in all() {
         let page = case.page();
-        for call_sign in case.call_signs() {
-            let listed = page.elements.iter().filter(|element| element.words == call_sign && !is_on_grid(element));
-            assert_eq!(listed.count(), 1, "{}: {call_sign}", case.name);
+        for words in case.listed() {
+            let listed = page.elements.iter().filter(|element| element.words == words && !is_on_grid(element));
+            assert_eq!(listed.count(), 1, "{}: {words}", case.name);
         }
     }
 }

@@ -98,10 +98,25 @@ fn licences_that_may_be_meant_otherwise_are_noted() {
     }
 }
 
+/// A width is none of a ground's words, and changes nothing of what is noted.
+#[test]
+fn narrow_licences_are_noted_by_their_ground() {
+    for (ground, note) in NOTED {
+        let folder = folder("noted-narrow", &format!("map good.csv\ngrant 1 {ground} width 20\n"));
+        let ended = codwalet(&folder, &["run", "it.plan"]);
+        let said = format!("grant 1 {ground} width 20  granted; 1 licence in force; note: {note}");
+        assert_eq!(answer(&ended, 2), said);
+        let word = ground.split_once(' ').map_or("", |(_, word)| word);
+        let ended = codwalet(&folder, &["run", "--strict", "it.plan"]);
+        assert_eq!(ended.said(), (Some(2), format!("it.plan:2: '{word}': {note}\n").as_str()));
+    }
+}
+
 /// Plans without a note: the licence covers a cell, is refused, or the map before it is.
-const NOT_NOTED: [&str; 6] = [
+const NOT_NOTED: [&str; 7] = [
     "map good.csv\ngrant 1 area 7\ngrant 2 box 39.5 39.6 -100.0 -99.99\n",
     "map good.csv\ngrant 0 area 8\n",
+    "map good.csv\ngrant 1 area 8 width 51\ngrant 1 area 7 width 1\n",
     "map good.csv\ngrant 1 box 0 39.6N 100.3W 0\n",
     "map bad.map\ngrant 1 area 8\n",
     "map good.csv\nmap bad.map\ngrant 1 area 8\n",
@@ -122,8 +137,8 @@ fn licences_without_a_note() {
 #[test]
 fn mixed_units_are_noted_whatever_comes_of_the_licence() {
     let note = "note: 40 is a whole number among degrees: it is 0.40 arc seconds";
-    let refused = "refused, 6: the call sign is 0, or the ground is ill-formed (south 14220000 is not below north 40, \
-                   in hundredths of an arc second)";
+    let refused = "refused, 6: the call sign is 0, the ground is ill-formed, or the width is not 1 to 50 \
+                   (south 14220000 is not below north 40, in hundredths of an arc second)";
     let ended = run("mixed", "grant 1 box 39.5 40 -101.0 -100.0\ngrant 2 box 39.5S 40 101W 100W\n");
     assert_eq!(answer(&ended, 1), format!("grant 1 box 39.5 40 -101.0 -100.0  {refused}; {note}"));
     assert_eq!(answer(&ended, 2), format!("grant 2 box 39.5S 40 101W 100W     granted; 1 licence in force; {note}"));
@@ -286,8 +301,8 @@ fn long_calls_move_their_own_answers_alone() {
     let zeros = "0".repeat(70_000);
     let ended = run("long", &format!("map good.csv\ncoverage {zeros}7\ncoverage 7\n"));
     assert_eq!(ended.said(), (Some(0), ""));
-    assert_eq!(answer(&ended, 2), format!("coverage {zeros}7  0 people, 0 cells"));
-    assert_eq!(answer(&ended, 3), format!("{:60}  0 people, 0 cells", "coverage 7"));
+    assert_eq!(answer(&ended, 2), format!("coverage {zeros}7  0 MHz-pops, 0 cells"));
+    assert_eq!(answer(&ended, 3), format!("{:60}  0 MHz-pops, 0 cells", "coverage 7"));
 }
 
 /// Runs a plan on a map with some lines.
@@ -302,10 +317,10 @@ fn run_over(lines: &str, name: &str, plan: &str, words: &[&str]) -> Ended {
 /// A cell with a person and, behind a gap, one without people.
 const SPARSE: &str = "7,1,0,0,1,39.5N,100W\n7,1,0,2,0,39.5N,99.96W\n";
 
-/// A box over the first cell, then a licence for both.
+/// A box over the first cell, 1 MHz wide, then a licence for both.
 const COVERED: &str = "\
 coverage 7
-grant 1 box 39.4N 39.6N 100W 99.98W
+grant 1 box 39.4N 39.6N 100W 99.98W width 1
 coverage 7
 grant 2 area 7
 coverage 7
@@ -314,10 +329,11 @@ propose 0
 ";
 
 #[test]
-fn coverage_is_people_and_cells() {
+fn coverage_is_mhz_pops_and_cells() {
     let ended = run_over(SPARSE, "covered", COVERED, &[]);
-    let lacking = "0 people, 0 cells (the map lacks the area)";
-    for (line, words) in [(2, "0 people, 0 cells"), (4, "1 person, 1 cell"), (6, "2 people, 3 cells"), (7, lacking)] {
+    let lacking = "0 MHz-pops, 0 cells (the map lacks the area)";
+    let due = [(2, "0 MHz-pops, 0 cells"), (4, "1 MHz-pop, 1 cell"), (6, "51 MHz-pops, 3 cells"), (7, lacking)];
+    for (line, words) in due {
         let answer = answer(&ended, line);
         assert!(answer.starts_with("coverage ") && answer.ends_with(&format!("  {words}")), "{answer}");
     }
@@ -334,8 +350,8 @@ fn given(ended: &Ended) -> Vec<&str> {
 fn a_proposal_has_the_cells_of_each_area() {
     let empty = "212,1,0,0,5,0.0,0.0\n";
     let ended = run_over(&format!("{SPARSE}{empty}"), "cells", COVERED, &[]);
-    let due = ["         7             1          3  nothing", "       212             0          0  nothing"];
-    assert_eq!(given(&ended), due);
+    let share = "         7             0          3  a share of 51 weighted MHz-pops";
+    assert_eq!(given(&ended), [share, "       212             0          0  nothing"]);
 }
 
 #[test]
@@ -351,14 +367,78 @@ fn the_most_cells_fit_their_column() {
 fn programs_are_told_the_cells() {
     let json = run_over(SPARSE, "covered-json", COVERED, &["--json"]).out;
     for answer in [
-        r#"{"line":4,"call":"coverage","area":7,"people":1,"cells":1,"in_map":true}"#,
-        r#"{"line":6,"call":"coverage","area":7,"people":2,"cells":3,"in_map":true}"#,
-        r#"{"line":7,"call":"coverage","area":8,"people":0,"cells":0,"in_map":false}"#,
+        r#"{"line":4,"call":"coverage","area":7,"mhz_pops":1,"cells":1,"in_map":true}"#,
+        r#"{"line":6,"call":"coverage","area":7,"mhz_pops":51,"cells":3,"in_map":true}"#,
+        r#"{"line":7,"call":"coverage","area":8,"mhz_pops":0,"cells":0,"in_map":false}"#,
     ] {
         assert!(json.lines().any(|line| line == answer), "{json}");
     }
-    let areas = r#""areas":[{"area":7,"whole_blocks":1,"cells":3,"gets":"nothing"}]}"#;
+    let areas = r#""areas":[{"area":7,"whole_blocks":0,"cells":3,"gets":"share","share":51}]}"#;
     assert!(json.trim_end().ends_with(areas), "{json}");
+}
+
+/// Grants with a width and without, on a map with 60 and 40 people.
+const WIDTHS: &str = "\
+map good.csv
+grant 1 area 7
+grant 2 area 7 width 20
+grant 3 box 39.4N 39.6N 100W 99.99W width 1 # the first cell
+coverage 7
+blocks 7
+cancel 2
+coverage 7
+";
+
+#[test]
+fn widths_count_until_their_licence_is_cancelled() {
+    let ended = run("widths", WIDTHS);
+    assert_eq!(ended.said(), (Some(0), ""));
+    let granted = "grant 3 box 39.4N 39.6N 100W 99.99W width 1  granted; 3 licences in force";
+    assert_eq!(answer(&ended, 4), granted);
+    // 50 x 100 + 20 x 100 + 1 x 60.
+    let due = [
+        (5, "7,060 MHz-pops, 5 cells"),
+        (6, "0 whole blocks, and 7,060 of 10,000 weighted MHz-pops of another"),
+        (8, "5,060 MHz-pops, 3 cells"),
+    ];
+    for (line, words) in due {
+        assert!(answer(&ended, line).ends_with(&format!("  {words}")), "{}", ended.out);
+    }
+}
+
+#[test]
+fn programs_are_told_the_width_of_every_licence() {
+    let json = codwalet(&folder("widths-json", WIDTHS), &["run", "it.plan", "--json"]).out;
+    let edges = r#""box":{"south":14184000,"north":14256000,"west":-36000000,"east":-35996400}"#;
+    let granted = [
+        r#"{"line":2,"call":"grant","call_sign":1,"area":7,"width":50,"in_force":1}"#.to_string(),
+        r#"{"line":3,"call":"grant","call_sign":2,"area":7,"width":20,"in_force":2}"#.to_string(),
+        format!(r#"{{"line":4,"call":"grant","call_sign":3,{edges},"width":1,"in_force":3}}"#),
+    ];
+    assert_eq!(json.lines().skip(1).take(3).collect::<Vec<_>>(), granted);
+}
+
+/// A width in a plan is that number, 50 too: the same is in force as without one.
+#[test]
+fn a_width_of_50_counts_as_none() {
+    let asked = "coverage 7\nblocks 7\npropose 0\nfootprint 0\n";
+    let answers = |width: &str| {
+        let ended = run("width-50", &format!("map good.csv\ngrant 1 area 7{width}\n{asked}"));
+        let after = ended.out.lines().skip(3).map(|line| line.split_whitespace().collect::<Vec<_>>().join(" "));
+        after.collect::<Vec<_>>()
+    };
+    assert_eq!(answers(" width 50"), answers(""));
+    assert_ne!(answers(" width 49"), answers(""));
+}
+
+/// One person under 1 MHz: the least that can be held.
+#[test]
+fn one_weighted_mhz_pop_is_singular() {
+    let plan = "grant 1 box 39.4N 39.6N 100W 99.98W width 1\npropose 0\n";
+    let ended = run_over(SPARSE, "singular", plan, &[]);
+    assert!(ended.out.contains("      T             1 weighted MHz-pop\n"), "{}", ended.out);
+    assert!(ended.out.contains("      white space  99 weighted MHz-pops\n"), "{}", ended.out);
+    assert_eq!(given(&ended), ["         7             0          1  a share of 1 weighted MHz-pop"]);
 }
 
 #[test]

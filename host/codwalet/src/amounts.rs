@@ -1,4 +1,4 @@
-//! Amounts: two units with types of their own, so that no sum mixes them.
+//! Amounts: three units with types of their own, so that no sum mixes them.
 
 use std::fmt;
 
@@ -6,21 +6,35 @@ use std::fmt;
 #[derive(Clone, Copy, Debug, Default, PartialEq, Eq, PartialOrd, Ord, Hash)]
 pub struct People(pub u64);
 
+/// An amount of MHz-pops: the width of a licence in MHz times the people that it covers.
+#[derive(Clone, Copy, Debug, Default, PartialEq, Eq, PartialOrd, Ord, Hash)]
+pub struct MhzPops(pub u64);
+
 /// An amount of weighted MHz-pops: MHz times people times the area's weight.
 #[derive(Clone, Copy, Debug, Default, PartialEq, Eq, PartialOrd, Ord, Hash)]
 pub struct Weighted(pub u64);
 
 impl fmt::Display for People {
     fn fmt(&self, out: &mut fmt::Formatter) -> fmt::Result {
-        let word = if self.0 == 1 { "person" } else { "people" };
-        out.pad(&format!("{} {word}", grouped(self.0)))
+        out.pad(&with_unit(self.0, "person", "people"))
+    }
+}
+
+impl fmt::Display for MhzPops {
+    fn fmt(&self, out: &mut fmt::Formatter) -> fmt::Result {
+        out.pad(&with_unit(self.0, "MHz-pop", "MHz-pops"))
     }
 }
 
 impl fmt::Display for Weighted {
     fn fmt(&self, out: &mut fmt::Formatter) -> fmt::Result {
-        out.pad(&format!("{} weighted MHz-pops", grouped(self.0)))
+        out.pad(&with_unit(self.0, "weighted MHz-pop", "weighted MHz-pops"))
     }
+}
+
+/// An amount and its unit, in the plural where it is due.
+fn with_unit(amount: u64, one: &str, more: &str) -> String {
+    format!("{} {}", grouped(amount), if amount == 1 { one } else { more })
 }
 
 /// A number with a comma at each thousand.
@@ -49,7 +63,11 @@ mod tests {
     #[test]
     fn amounts_name_their_unit() {
         assert_eq!([0, 1, 20_427].map(|count| People(count).to_string()), ["0 people", "1 person", "20,427 people"]);
-        assert_eq!(Weighted(407_000).to_string(), "407,000 weighted MHz-pops");
+        assert_eq!([1, 552_850].map(|amount| MhzPops(amount).to_string()), ["1 MHz-pop", "552,850 MHz-pops"]);
+        assert_eq!(
+            [1, 407_000].map(|amount| Weighted(amount).to_string()),
+            ["1 weighted MHz-pop", "407,000 weighted MHz-pops"]
+        );
         assert_eq!(format!("{:>10}|", People(5)), "  5 people|");
     }
 }

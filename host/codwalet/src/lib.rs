@@ -17,9 +17,11 @@
 //! let footprint = map.footprint(&register, 0)?;
 //! assert!(footprint.contains(0, 0) && !footprint.contains(0, 1));
 //!
-//! // Once it is cancelled, it counts no more.
+//! // It is cancelled, which ends its counting, and granted again as a slice of 20 MHz.
 //! let register = register.cancel(101)?;
-//! assert_eq!(map.coverage(&register, 7).people.to_string(), "0 people");
+//! assert_eq!(map.coverage(&register, 7).mhz_pops.to_string(), "0 MHz-pops");
+//! let register = register.grant(Licence::area(101, 7).with_width(20))?;
+//! assert_eq!(map.coverage(&register, 7).mhz_pops.to_string(), "2,000 MHz-pops");
 //! # Ok::<(), Box<dyn std::error::Error>>(())
 //! ```
 //!
@@ -45,7 +47,7 @@ pub mod raw;
 mod refusal;
 mod register;
 
-pub use amounts::{People, Weighted, grouped};
+pub use amounts::{MhzPops, People, Weighted, grouped};
 pub use area::{AreaHead, Cell, NewArea};
 pub use footprint::{Footprint, Workspace};
 pub use layout::{Fault, Unwritable, write_map};

@@ -1,7 +1,9 @@
 //! Licences, and what is wrong with one that the engine refuses by 6.
 
 use crate::{Cell, limits, raw};
+use std::cmp::Ordering;
 use std::fmt;
+use std::hash::{Hash, Hasher};
 
 /// A box between two latitudes and two longitudes, in hundredths of an arc second; degrees south and west are negative.
 /// It covers the cells with south <= latitude < north and west <= longitude < east.
@@ -52,22 +54,37 @@ pub enum Ground {
     None,
 }
 
-/// A licence of 50 MHz.
-#[derive(Clone, Copy, Debug, PartialEq, Eq, PartialOrd, Ord, Hash)]
+/// A licence: a call sign, a ground, and a width in MHz. Two are equal if all three are, one without a width being 50 MHz wide.
+///
+/// ```
+/// use codwalet::{Licence, limits};
+///
+/// // A carrier that has sold 30 of its 50 MHz.
+/// let slice = Licence::area(1001, 212).with_width(20);
+/// assert_eq!((slice.width(), Licence::area(1001, 212).width()), (20, limits::FULL_WIDTH));
+/// ```
+#[derive(Clone, Copy, Debug)]
 pub struct Licence {
     call_sign: u32,
     ground: Ground,
+    /// None if it is to be granted without one.
+    width: Option<u32>,
 }
 
 impl Licence {
-    /// A licence for a whole area.
+    /// A licence for a whole area, without a width.
     pub fn area(call_sign: u32, number: u16) -> Licence {
-        Licence { call_sign, ground: Ground::Area(number) }
+        Licence { call_sign, ground: Ground::Area(number), width: None }
     }
 
-    /// A licence for what lies within a box.
+    /// A licence for what lies within a box, without a width.
     pub fn within(call_sign: u32, edges: GeoBox) -> Licence {
-        Licence { call_sign, ground: Ground::Box(edges) }
+        Licence { call_sign, ground: Ground::Box(edges), width: None }
+    }
+
+    /// The licence with a width in MHz. Any number is taken; a grant refuses those that are not 1 to [`limits::FULL_WIDTH`].
+    pub fn with_width(self, mhz: u32) -> Licence {
+        Licence { width: Some(mhz), ..self }
     }
 
     /// The number under which the licence is granted and cancelled.
@@ -80,7 +97,13 @@ impl Licence {
         self.ground
     }
 
-    /// Whether the licence covers a cell of the area with a number.
+    /// The width in MHz: [`limits::FULL_WIDTH`] if the licence has none of its own. No grant is accepted with 0; a register that is
+    /// read from bytes may hold it, and then the licence covers its cells and adds no MHz-pops.
+    pub fn width(&self) -> u32 {
+        self.width.unwrap_or(limits::FULL_WIDTH)
+    }
+
+    /// Whether the licence covers a cell of the area with a number, whatever its width.
     pub fn covers(&self, area: u16, cell: &Cell) -> bool {
         match self.ground {
             Ground::Area(number) => number == area,
@@ -95,15 +118,26 @@ impl Licence {
         if self.call_sign == 0 {
             return Some(Flaw::CallSignZero);
         }
-        match self.ground {
+        let of_ground = match self.ground {
             Ground::Area(number) if (1..=limits::AREA_NUMBER).contains(&number) => None,
             Ground::Area(number) => Some(Flaw::AreaNumber(number)),
             Ground::Box(edges) => edges.flaw(),
             Ground::None => Some(Flaw::NoGround),
+        };
+        let of_width = || (!(1..=limits::FULL_WIDTH).contains(&self.width())).then_some(Flaw::Width(self.width()));
+        of_ground.or_else(of_width)
+    }
+
+    /// The step of a grant, with a width or without as the licence has it.
+    pub(crate) fn grant_in(self, register: raw::Register) -> raw::Step {
+        match self.width {
+            Some(mhz) => raw::codwalet_grant_width(register, self.to_raw(), mhz),
+            None => raw::codwalet_grant(register, self.to_raw()),
         }
     }
 
-    pub(crate) fn to_raw(self) -> raw::Licence {
+    /// Grants don't read `narrower_by`, which is 0 here.
+    fn to_raw(self) -> raw::Licence {
         let licence = raw::Licence { call_sign: self.call_sign, ..Default::default() };
         match self.ground {
             Ground::Area(area) => raw::Licence { kind: raw::GROUND_AREA, area, ..licence },
@@ -114,14 +148,46 @@ impl Licence {
         }
     }
 
+    /// The licence at a place of a register.
     pub(crate) fn from_raw(licence: &raw::Licence) -> Licence {
-        let raw::Licence { call_sign, area, kind, south, north, west, east, .. } = *licence;
+        let raw::Licence { call_sign, area, kind, narrower_by, south, north, west, east } = *licence;
         let ground = match kind {
             raw::GROUND_AREA => Ground::Area(area),
             raw::GROUND_BOX => Ground::Box(GeoBox { south, north, west, east }),
             _ => Ground::None,
         };
-        Licence { call_sign, ground }
+        Licence { call_sign, ground, width: Some(limits::FULL_WIDTH.saturating_sub(narrower_by.into())) }
+    }
+
+    /// What licences are compared by: the width that counts, however it was given.
+    fn key(&self) -> (u32, Ground, u32) {
+        (self.call_sign, self.ground, self.width())
+    }
+}
+
+impl PartialEq for Licence {
+    fn eq(&self, other: &Licence) -> bool {
+        self.key() == other.key()
+    }
+}
+
+impl Eq for Licence {}
+
+impl PartialOrd for Licence {
+    fn partial_cmp(&self, other: &Licence) -> Option<Ordering> {
+        Some(self.cmp(other))
+    }
+}
+
+impl Ord for Licence {
+    fn cmp(&self, other: &Licence) -> Ordering {
+        self.key().cmp(&other.key())
+    }
+}
+
+impl Hash for Licence {
+    fn hash<H: Hasher>(&self, state: &mut H) {
+        self.key().hash(state);
     }
 }
 
@@ -153,6 +219,8 @@ pub enum Flaw {
     },
     /// The ground is neither an area nor a box.
     NoGround,
+    /// A width in MHz that no licence has.
+    Width(u32),
 }
 
 impl fmt::Display for Flaw {
@@ -167,6 +235,7 @@ impl fmt::Display for Flaw {
             }
             Flaw::WestNotBelowEast { west, east } => write!(out, "west {west} is not below east {east}, in {UNIT}"),
             Flaw::NoGround => write!(out, "the ground is neither an area nor a box"),
+            Flaw::Width(mhz) => write!(out, "width {mhz} is not within 1 to {} MHz", limits::FULL_WIDTH),
         }
     }
 }

@@ -8,6 +8,8 @@ pub const AREAS: usize = raw::AREAS;
 pub const LICENCES: usize = raw::LIMIT;
 /// Partial areas of a proposal.
 pub const PARTIAL_AREAS: usize = raw::PARTIAL_AREAS as usize;
+/// The width of a licence in MHz, which is that of one granted without a width; the smallest is 1.
+pub const FULL_WIDTH: u32 = raw::FULL_WIDTH;
 /// The number of an area; the smallest is 1.
 pub const AREA_NUMBER: u16 = raw::LARGEST_NUMBER as u16;
 /// The weight of an area; the smallest is 1.

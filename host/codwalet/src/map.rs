@@ -98,7 +98,7 @@ impl<'a> Map<'a> {
         })
     }
 
-    /// What licences in force cover in an area: people and cells, both 0 if the map lacks the number.
+    /// What licences in force cover in an area: MHz-pops and cells, both 0 if the map lacks the number.
     pub fn coverage(&self, register: &Register, number: u16) -> Coverage {
         Coverage::from_raw(&raw::coverage(&self.bytes, register.0, number))
     }

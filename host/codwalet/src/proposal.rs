@@ -1,21 +1,21 @@
 //! Coverage and blocks of one area, and the proposal over all of them.
 
-use crate::{People, Weighted, raw};
+use crate::{MhzPops, Weighted, raw};
 use std::fmt;
 
-/// What licences in force cover in an area. A cell under two licences counts twice, with its people.
+/// What licences in force cover in an area. A cell under two licences counts for both, with its people.
 #[derive(Clone, Copy, Debug, Default, PartialEq, Eq)]
 #[non_exhaustive]
 pub struct Coverage {
-    /// c: the people in covered cells.
-    pub people: People,
-    /// Covered cells, those without people too.
+    /// c: for each licence its width times the people in the cells that it covers.
+    pub mhz_pops: MhzPops,
+    /// Covered cells, those without people too, whatever the width of a licence.
     pub cells: u64,
 }
 
 impl Coverage {
     pub(crate) fn from_raw(covered: &raw::Covered) -> Coverage {
-        Coverage { people: People(covered.people), cells: covered.cells }
+        Coverage { mhz_pops: MhzPops(covered.mhz_pops), cells: covered.cells }
     }
 }
 
@@ -149,7 +149,7 @@ pub struct Given {
     /// What the area gets.
     pub gets: Gets,
     /// Cells that licences in force cover in the area, as [`Coverage::cells`]. A site survey is priced by them; the proposal
-    /// itself reads people only.
+    /// itself reads MHz-pops only.
     pub cells: u64,
 }
 

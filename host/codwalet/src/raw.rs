@@ -19,7 +19,7 @@ pub fn look_up(map: &[u8], number: u16) -> Area {
     unsafe { codwalet_look_up(map.as_ptr(), map.len(), number) }
 }
 
-/// The people and the cells covered in the area with a number.
+/// The MHz-pops and the cells covered in the area with a number.
 pub fn coverage(map: &[u8], register: Register, number: u16) -> Covered {
     // SAFETY: pointers and lengths are those of slices.
     unsafe { codwalet_coverage(map.as_ptr(), map.len(), register, number) }

@@ -17,7 +17,7 @@ pub enum Refusal {
     MapOrder,
     /// 5: an area's population is 0 or too large.
     MapPopulation,
-    /// 6: the call sign is 0, or the ground is ill-formed.
+    /// 6: the call sign is 0, the ground is ill-formed, or the width is not 1 to 50.
     IllFormed {
         /// What is wrong, as [`Licence::flaw`](crate::Licence::flaw) finds it.
         flaw: Option<Flaw>,
@@ -125,6 +125,7 @@ mod tests {
     fn words_name_the_limits() {
         let said = [
             (Refusal::MapPopulation, limits::POPULATION),
+            (Refusal::IllFormed { flaw: None }, limits::FULL_WIDTH.into()),
             (Refusal::Full, limits::LICENCES as u64),
             (Refusal::TooManyPartial, limits::PARTIAL_AREAS as u64),
         ];
@@ -140,7 +141,7 @@ mod tests {
         let licence = Refusal::IllFormed { flaw: Some(Flaw::AreaNumber(417)) };
         assert_eq!(
             licence.to_string(),
-            "the call sign is 0, or the ground is ill-formed (area 417 is not within 1 to 416)"
+            "the call sign is 0, the ground is ill-formed, or the width is not 1 to 50 (area 417 is not within 1 to 416)"
         );
     }
 }

@@ -4,7 +4,7 @@ use crate::{Flaw, Licence, Refusal, grouped, limits, raw};
 use std::fmt;
 
 /// The licences in force. It is a plain value: a refused grant or cancellation leaves the one that the caller has. Two are equal
-/// if the same licences are in force in them.
+/// if the same licences are in force in them, with the same widths.
 #[derive(Clone, Copy)]
 pub struct Register(pub(crate) raw::Register);
 
@@ -25,14 +25,23 @@ impl Register {
         Register(raw::codwalet_empty())
     }
 
-    /// The register with a licence granted.
+    /// The register with a licence granted, with its width or, if it has none, without one.
+    ///
+    /// ```
+    /// use codwalet::{Flaw, Licence, Refusal, Register};
+    ///
+    /// let register = Register::empty().grant(Licence::area(1, 7))?.grant(Licence::area(2, 7).with_width(20))?;
+    /// assert_eq!([1, 2].map(|call_sign| register.get(call_sign).map(|licence| licence.width())), [Some(50), Some(20)]);
+    /// let refused = register.grant(Licence::area(3, 7).with_width(51));
+    /// assert_eq!(refused, Err(Refusal::IllFormed { flaw: Some(Flaw::Width(51)) }));
+    /// # Ok::<(), Refusal>(())
+    /// ```
     ///
     /// # Errors
     ///
     /// In this order: [`Refusal::IllFormed`], [`Refusal::InForce`], [`Refusal::Full`].
     pub fn grant(self, licence: Licence) -> Result<Register, Refusal> {
-        let step = raw::codwalet_grant(self.0, licence.to_raw());
-        Register::next(step).map_err(|refusal| with_flaw(refusal, licence.flaw()))
+        Register::next(licence.grant_in(self.0)).map_err(|refusal| with_flaw(refusal, licence.flaw()))
     }
 
     /// The register with a licence cancelled.
@@ -44,7 +53,7 @@ impl Register {
         Register::next(raw::codwalet_cancel(self.0, call_sign))
     }
 
-    /// The licences in force, in no order that means anything.
+    /// The licences in force, each with its width, in no order that means anything.
     pub fn licences(&self) -> impl Iterator<Item = Licence> + '_ {
         let raw::Register { places } = &self.0;
         places.iter().filter(|place| place.call_sign != 0).map(Licence::from_raw)
@@ -65,16 +74,17 @@ impl Register {
         self.licences().find(|licence| licence.call_sign() == call_sign)
     }
 
-    /// The register as bytes, to be kept: those of the C struct. They belong to version [`raw::VERSION`] of the interface; in
-    /// version 1 they were the same.
+    /// The register as bytes, to be kept: those of the C struct. They belong to version [`raw::VERSION`] of the interface.
+    /// Versions 1 and 2 had 0 where a place now has the MHz by which its licence is narrower than 50.
     pub fn to_bytes(&self) -> [u8; Register::BYTES] {
         // SAFETY: the struct is numbers without padding, as the assertion below says.
         unsafe { std::mem::transmute(self.0) }
     }
 
-    /// The register in bytes that were kept, in this version of the interface or in version 1. Any bytes are taken, and what is
-    /// in force in them counts as the engine counts it: a place with call sign 0 is free, a ground of no kind covers nothing, and
-    /// a box covers what lies between its edges, even where no grant would accept them.
+    /// The register in bytes that were kept, in this version of the interface or in version 1 or 2, whose licences are all 50 MHz
+    /// wide. Any bytes are taken, and what is in force in them counts as the engine counts it: a place with call sign 0 is free, a
+    /// ground of no kind covers nothing, a box covers what lies between its edges, even where no grant would accept them, and a
+    /// licence that is narrower by 50 MHz or more has width 0.
     ///
     /// # Panics
     ///
@@ -98,7 +108,7 @@ impl Register {
     }
 }
 
-/// Every byte of a register belongs to a number: a call sign, an area, a kind, an unused byte, or one of four edges.
+/// Every byte of a register belongs to a number: a call sign, an area, a kind, what a width lacks to 50, or one of four edges.
 const _: () = assert!(size_of::<raw::Register>() == raw::LIMIT * (4 + 2 + 1 + 1 + 4 * 4));
 
 /// A refusal by 6, with what is wrong.

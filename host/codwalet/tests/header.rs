@@ -117,12 +117,14 @@ fn structs_are_as_large_as_the_header_says() {
     }
 }
 
-/// Where version 2 has cells. A layout that is another one needs another version.
+/// Where version 3 has widths, MHz-pops and cells. A layout that is another one needs another version.
 #[test]
-fn cells_stand_where_version_2_has_them() {
-    assert_eq!(raw::VERSION, 2);
+fn fields_stand_where_version_3_has_them() {
+    assert_eq!(raw::VERSION, 3);
+    let licence = [offset_of!(raw::Licence, kind), offset_of!(raw::Licence, narrower_by)];
+    assert_eq!((licence, size_of::<raw::Licence>()), ([6, 7], 24));
     let covered =
-        [offset_of!(raw::Covered, people), offset_of!(raw::Covered, cells), offset_of!(raw::Covered, refusal)];
+        [offset_of!(raw::Covered, mhz_pops), offset_of!(raw::Covered, cells), offset_of!(raw::Covered, refusal)];
     assert_eq!((covered, size_of::<raw::Covered>()), ([0, 8, 16], 24));
     let given = [offset_of!(raw::Given, blocks), offset_of!(raw::Given, share), offset_of!(raw::Given, cells)];
     assert_eq!((given, size_of::<raw::Given>()), ([8, 16, 24], 32));

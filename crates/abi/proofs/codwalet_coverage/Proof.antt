@@ -21,7 +21,7 @@ enum-known-sums c = search needs
 returns : tie.Need-returns
 returns c =
     let c2 = c .before .before in
-    (λ i. record { people = 0; cells = 0; refusal = c .number .ensures i; unused = 0 })
+    (λ i. record { «mhz_pops» = 0; cells = 0; refusal = c .number .ensures i; unused = 0 })
     ∙ ap flatCovered (sym (ap coverageMeans (c2 .f .given .1)) ∙ c2 .before .before .coverage .ensures)
 
 returns-2 : tie.Need-returns-2

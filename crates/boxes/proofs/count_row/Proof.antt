@@ -45,10 +45,11 @@ returns : tie.Need-returns
 returns c = record {
   fine = sym (not-true (c .before .within .result) (c .if1 .taken)) ∙ fine (c .before);
   people = λ t. not-both t refl;
-  boxed-people = λ t. not-both t refl;
+  boxed-mhz-pops = λ t. not-both t refl;
   boxed-cells = λ t. not-both t refl;
+  narrow = λ t. not-both t refl;
   few-people = omega arith;
-  few-boxed-people = omega arith;
+  few-boxed-mhz-pops = omega arith;
   few-boxed-cells = omega arith;
 }
 
@@ -68,10 +69,11 @@ returns-2 c =
     record {
       fine = sym (not-false (c2 .before .within .result) (c2 .if1 .left)) ∙ fine (c2 .before);
       people = λ _. c .before .sum .ensures .0;
-      boxed-people = λ _. under .people;
+      boxed-mhz-pops = λ _. under .mhz-pops;
       boxed-cells = λ _. under .cells;
+      narrow = λ _. under .narrow;
       few-people = c .before .sum .ensures .1;
-      few-boxed-people = under .few-people;
+      few-boxed-mhz-pops = under .few-mhz-pops;
       few-boxed-cells = under .few-cells;
     }
 

@@ -1,10 +1,11 @@
 -- `coverage::holding_of` meets its contract: the area's own fields, its c and its sum of cells. Assumes nothing.
-use Prim.Native.Nat.{ℕ, _≤_}
 use mathlib.Core.Path.{ap, _∙_, subst}
 use borrow.Author.Needs.{needs}
 use Rattle.coverage.specs.declared.Holding.{Holding}
 use Rattle.coverage.specs.declared.CoverageSums.{CoverageSums}
-use Rattle.coverage.specs.Limits.{sumsBy}
+use Rattle.register.specs.declared.Naming.{Naming}
+use Rattle.coverage.specs.Limits.{FewNaming, sumsBy}
+use Rattle.coverage.proofs.CoverLaws.{naming-is, naming-few}
 use Rattle.coverage.proofs.holding_of.Statement.{statement}
 use Rattle.coverage.proofs.holding_of.Tie as tie
 
@@ -23,12 +24,14 @@ returns c =
       number = a .area .number;
       weight = a .area .weight;
       population = a .area .population;
-      covered = s .people;
+      covered = s .«mhz_pops»;
       cells = s .cells;
-    } in (
-      ap with (c2 .sums-of .ensures ∙ ap (λ (n : ℕ). sumsBy n (a .counts)) (c3 .naming .ensures .0)),
-      subst (λ (n : ℕ). n ≤ 64) (c3 .naming .ensures .0) (c3 .naming .ensures .1),
-    )
+    } in
+    let named = naming-is (c3 .naming .ensures) in
+    record {
+      is = ap with (c2 .sums-of .ensures ∙ ap (λ (n : Naming). sumsBy n (a .counts)) named);
+      few = subst FewNaming named (naming-few (c3 .naming .ensures));
+    }
 
 pub holding-of-spec : {M : Type 1} → statement M
 holding-of-spec = tie.close (tie.spec naming-requires sums-of-requires returns)

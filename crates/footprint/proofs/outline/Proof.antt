@@ -7,7 +7,7 @@ use denote.Ref.{now}
 use lib.ListN.{length, take, replicate, length-replicate}
 use Rattle.map.specs.declared.Area as handed
 use Rattle.register.specs.Licences.{inForce}
-use Rattle.coverage.proofs.CoverLaws.{edges-size, covered-some}
+use Rattle.coverage.proofs.CoverLaws.{naming-is, edges-size, covered-some}
 use Rattle.map.specs.Format.{Area}
 use Rattle.map.specs.Answers.{summary}
 use Rattle.map.specs.Accepted.{AreaHolds}
@@ -68,7 +68,7 @@ lay-out-requires c κs =
       p .reads,
       omega (arith, p .columns),
       omega (arith, p .rows),
-      c6 .before .naming .ensures .1,
+      c6 .before .naming .ensures .few,
       omega (arith, edges-size boxes, boxes .counts .few),
       omega (arith, few, length-replicate {A = ℕ} 16384 0),
       omega (arith, few, length-replicate {A = ℕ} 16384 0),
@@ -109,9 +109,9 @@ outlined c =
     let laid = c9 .lay-out in
     let boxes = c16 .boxes in
     record {
-      always = c17 .naming .result;
+      always = c17 .naming .result .licences;
       edges = take (4 * boxes .result .count) (boxes .result .edges);
-      over = covered-some (boxes .ensures) (start c .args .a .number) (c17 .naming .ensures .0);
+      over = covered-some (boxes .ensures) (start c .args .a .number) (naming-is (c17 .naming .ensures));
       before = record { people = replicate 16384 0; cells = replicate 16384 0; mask = now (start c .args .mask) };
       after = record {
         people = laid .last .1 .1 .1 .1 .1 .1 .0;

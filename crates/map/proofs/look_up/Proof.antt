@@ -1,7 +1,6 @@
 -- `map::look_up`: what is sought under no box, without its counts. Assumes nothing.
 use mathlib.Core.Path.{sym, ap, _∙_}
 use mathlib.Core.List.{[]}
-use native.Mathlib.Omega.{arith}
 use denote.Ref.{now}
 use Rattle.map.proofs.AreaLaws.{bare, look-up-is}
 use Rattle.map.specs.Format.{readMap}
@@ -31,21 +30,21 @@ enum-known-a c = search needs
 returns : tie.Need-returns
 returns c =
     let c3 = c .before .before .before in
-    let a = c3 .before .before .before .args in
-    ap bare (sym (ap soughtMeans (c .before .f .given .1)) ∙ c3 .find .ensures) ∙ look-up-is [] (a .number) (readMap (now (a .map)))
+    let a = c3 .before .before .before .before .args in
+    ap bare (sym (ap soughtMeans (c .before .f .given .1)) ∙ c3 .find .ensures) ∙ look-up-is [] _ (a .number) (readMap (now (a .map)))
 
 returns-2 : tie.Need-returns-2
 returns-2 c =
     let c2 = c .before .before in
-    let a = c2 .before .before .before .args in
-    ap bare (sym (ap soughtMeans (c .enum-told .given .1)) ∙ c2 .find .ensures) ∙ look-up-is [] (a .number) (readMap (now (a .map)))
+    let a = c2 .before .before .before .before .args in
+    ap bare (sym (ap soughtMeans (c .enum-told .given .1)) ∙ c2 .find .ensures) ∙ look-up-is [] _ (a .number) (readMap (now (a .map)))
 
 returns-3 : tie.Need-returns-3
 returns-3 c =
     let c4 = c .before .before .before .before in
-    let a = c4 .before .before .before .args in
+    let a = c4 .before .before .before .before .args in
     ap bare (sym (ap soughtMeans (c .before .before .a .given .1)) ∙ c4 .find .ensures)
-    ∙ look-up-is [] (a .number) (readMap (now (a .map)))
+    ∙ look-up-is [] _ (a .number) (readMap (now (a .map)))
 
 pub look-up-spec : {M : Type 1} → statement M
 look-up-spec =

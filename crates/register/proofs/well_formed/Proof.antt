@@ -1,4 +1,5 @@
--- `register::well_formed` meets its contract: the call sign is tested first, and the call tells of the ground. Assumes nothing.
+-- `register::well_formed` meets its contract: the call sign is tested first, and the calls tell of the ground and of the width.
+-- Assumes nothing.
 use borrow.Author.Needs.{needs}
 use borrow.Author.Tests.{eq-eqb, ne-eqb}
 use Rattle.register.specs.Licences.{wellFormed}
@@ -12,9 +13,12 @@ returns c = simp (eq-eqb _ _ (c .if1 .taken))
 ground-formed-requires : tie.Need-ground-formed-requires
 ground-formed-requires c κs = search needs
 
+width-formed-requires : tie.Need-width-formed-requires
+width-formed-requires c κs = search needs
+
 returns-2 : tie.Need-returns-2
 unfolding wellFormed
-returns-2 c = simp (c .ground-formed .ensures, ne-eqb _ _ (c .before .if1 .left))
+returns-2 c = simp (c .before .ground-formed .ensures, c .width-formed .ensures, ne-eqb _ _ (c .before .before .if1 .left))
 
 pub well-formed-spec : {M : Type 1} → statement M
-well-formed-spec = tie.close (tie.spec returns ground-formed-requires returns-2)
+well-formed-spec = tie.close (tie.spec returns ground-formed-requires width-formed-requires returns-2)

@@ -1,7 +1,7 @@
 //! The maps and registers that the benchmarks work on. They are made anew in each run and are always the same.
 
 use codwalet::limits::{AREA_NUMBER, AREAS, LICENCES, SIDE};
-use codwalet::raw::{GROUND_AREA, GROUND_BOX, Licence, Register};
+use codwalet::raw::{FULL_WIDTH, GROUND_AREA, GROUND_BOX, Licence, Register};
 use codwalet::{Cell, NewArea, write_map};
 
 /// A map, and the licences in force over it.
@@ -90,6 +90,15 @@ pub fn largest(boxes: usize) -> Holdings {
     };
     let boxes: Vec<Licence> = (0..boxes).map(box_at).collect();
     Holdings { map: map_of(&areas), register: register_of(&boxes) }
+}
+
+/// The largest map and its 64 boxes, of widths from 50 MHz down to 1 and again from 50.
+pub fn largest_narrow() -> Holdings {
+    let mut on = largest(LICENCES);
+    for (place, licence) in on.register.places.iter_mut().enumerate() {
+        licence.narrower_by = (place % FULL_WIDTH as usize) as u8;
+    }
+    on
 }
 
 /// The largest map with 100 people in each cell of its last area, and a box over 16 by 16 of these. The share is worth

@@ -13,8 +13,8 @@ mod row;
 mod search;
 
 use codwalet::raw::{Covered, Outline, Proposal, Register};
-use coverage::{Count, Grounds};
-pub use register::{cancel, grant};
+use coverage::Grounds;
+pub use register::{cancel, grant, grant_width};
 
 /// 0 if the map is accepted, else its refusal.
 #[inline(never)]
@@ -22,7 +22,7 @@ pub fn check_map(map: &[u8]) -> u32 {
     map::read(map, &Grounds::default()).err().unwrap_or(0)
 }
 
-/// The people and the cells covered in the area with a number: zeros if the map lacks it.
+/// The MHz-pops and the cells covered in the area with a number: zeros if the map lacks it.
 #[inline(never)]
 pub fn coverage(map: &[u8], register: Register, number: u16) -> Covered {
     let areas = match map::read(map, &Grounds::of(&register).only_in(number)) {
@@ -30,8 +30,8 @@ pub fn coverage(map: &[u8], register: Register, number: u16) -> Covered {
         Ok(areas) => areas,
     };
     let area = areas.iter().find(|area| area.number == number);
-    let Count { people, cells } = area.map_or(Count::default(), |area| area.covered);
-    Covered { people, cells, ..Covered::default() }
+    let covered = area.map_or(Default::default(), |area| area.covered);
+    Covered { mhz_pops: covered.mhz_pops, cells: covered.cells, ..Covered::default() }
 }
 
 /// The proposal with a draw.

@@ -100,20 +100,12 @@ fn add_many(cases: &mut Cases) {
 mod tests {
     use super::*;
 
-    /// The lines with a name that some cases print.
-    fn printed(add: fn(&mut Cases), name: &str) -> Vec<String> {
-        let mut cases = Cases::default();
-        add(&mut cases);
-        let lines = cases.played.iter().flat_map(|played| played.lines.lines());
-        lines.filter_map(|line| line.strip_prefix(name)).map(str::to_string).collect()
-    }
-
-    /// Each coverage of some cases by hand count: people, and cells.
+    /// Each coverage of some cases by hand count: people under licences of 50 MHz, and cells.
     fn assert_covered(add: fn(&mut Cases), by_hand: &[(u32, u32)]) {
-        let (people, cells) = (printed(add, " people "), printed(add, " cells "));
-        let covered: Vec<(String, String)> = people.into_iter().zip(cells).collect();
+        let (mhz_pops, cells) = (Cases::printed(add, " mhz-pops "), Cases::printed(add, " cells "));
+        let covered: Vec<(String, String)> = mhz_pops.into_iter().zip(cells).collect();
         let by_hand: Vec<(String, String)> =
-            by_hand.iter().map(|(people, cells)| (people.to_string(), cells.to_string())).collect();
+            by_hand.iter().map(|(people, cells)| ((50 * people).to_string(), cells.to_string())).collect();
         assert_eq!(covered, by_hand);
     }
 
@@ -133,20 +125,20 @@ mod tests {
 
     #[test]
     fn proposals_show_the_same_cells() {
-        assert_eq!(printed(add_without_people, "  cells "), ["3", "6", "15", "12"]);
-        assert_eq!(printed(add_beside_boxes, "  cells "), ["5", "3", "5", "13", "8", "13", "6", "10"]);
+        assert_eq!(Cases::printed(add_without_people, "  cells "), ["3", "6", "15", "12"]);
+        assert_eq!(Cases::printed(add_beside_boxes, "  cells "), ["5", "3", "5", "13", "8", "13", "6", "10"]);
     }
 
     #[test]
     fn cells_decide_nothing() {
-        assert_eq!(printed(add_level, "  share "), ["2500"; 6]);
-        assert_eq!(printed(add_level, " tied "), ["3"; 6]);
+        assert_eq!(Cases::printed(add_level, "  share "), ["2500"; 6]);
+        assert_eq!(Cases::printed(add_level, " tied "), ["3"; 6]);
         // The areas in order, draw by draw: each gets the share once.
         let mut cases = Cases::default();
         add_level(&mut cases);
         let gets: String = cases.played.iter().flat_map(|played| played.lines.lines()).filter_map(gets).collect();
         assert_eq!(gets, "swwwswwws".repeat(2));
-        assert_eq!(printed(add_ranked, "  share "), ["29000"; 4]);
+        assert_eq!(Cases::printed(add_ranked, "  share "), ["29000"; 4]);
     }
 
     /// A letter for what an area gets.

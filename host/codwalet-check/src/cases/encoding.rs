@@ -5,15 +5,17 @@ use crate::reference::{Ground, Licence};
 /// The bytes of a block. The program reads a block at a time.
 pub const BLOCK: usize = 65_536;
 /// The blocks that the program reads.
-pub const BLOCKS: usize = 2;
+pub const BLOCKS: usize = 3;
 
 /// One case of the program.
 #[derive(Clone, Debug, PartialEq, Eq)]
 pub enum Case {
     /// A map to check, and numbers to look up in it.
     Map { map: Vec<u8>, numbers: Vec<u16> },
-    /// A licence to grant.
+    /// A licence to grant without a width.
     Grant(Licence),
+    /// A licence to grant with its width, which may be ill-formed.
+    GrantWidth(Licence),
     /// A call sign to cancel.
     Cancellation(u32),
     /// From here on an empty register.
@@ -45,6 +47,7 @@ impl Case {
         match self {
             Case::Map { .. } => "map",
             Case::Grant(_) => "grant",
+            Case::GrantWidth(_) => "grant with a width",
             Case::Cancellation(_) => "cancellation",
             Case::Empty => "empty register",
             Case::Proposals { .. } => "proposals",
@@ -57,7 +60,8 @@ impl Case {
     pub fn encode(&self) -> Vec<u8> {
         match self {
             Case::Map { map, numbers } => [vec![b'M'], sized(map), vec![numbers.len() as u8], u16s(numbers)].concat(),
-            Case::Grant(licence) => encode_grant(licence),
+            Case::Grant(licence) => [vec![b'G'], licence_fields(licence)].concat(),
+            Case::GrantWidth(licence) => [vec![b'W'], licence_fields(licence), u32s(&[licence.width])].concat(),
             Case::Cancellation(call_sign) => [vec![b'C'], u32s(&[*call_sign])].concat(),
             Case::Empty => vec![b'E'],
             Case::Proposals { map, numbers, draws } => {
@@ -76,14 +80,14 @@ impl Case {
     }
 }
 
-/// A grant has fields for both grounds; those of the other ground are 0.
-fn encode_grant(licence: &Licence) -> Vec<u8> {
+/// The fields of a grant before a width. They are for both grounds; those of the other ground are 0.
+fn licence_fields(licence: &Licence) -> Vec<u8> {
     let (form, number, edges) = match licence.ground {
         Ground::Area(number) => (0, number, [0; 4]),
         Ground::Box { south, north, west, east } => (1, 0, [south, north, west, east]),
     };
     let edges = edges.iter().flat_map(|edge| edge.to_le_bytes()).collect();
-    [vec![b'G'], u32s(&[licence.call_sign]), vec![form], u16s(&[number]), edges].concat()
+    [u32s(&[licence.call_sign]), vec![form], u16s(&[number]), edges].concat()
 }
 
 fn encode_call(call: &Call) -> Vec<u8> {
@@ -132,11 +136,14 @@ mod tests {
 
     #[test]
     fn calls_on_the_register() {
-        let grant = |ground| Case::Grant(Licence { call_sign: 258, ground }).encode();
+        let grant = |ground| Case::Grant(Licence::without_width(258, ground)).encode();
         let on_area = grant(Ground::Area(416));
         assert_eq!(on_area, b"G\x02\x01\0\0\0\xa0\x01\0\0\0\0\0\0\0\0\0\0\0\0\0\0\0\0");
         let on_box = grant(Ground::Box { south: -1, north: 2, west: -3, east: 4 });
         assert_eq!(on_box, b"G\x02\x01\0\0\x01\0\0\xff\xff\xff\xff\x02\0\0\0\xfd\xff\xff\xff\x04\0\0\0");
+        let narrow = Licence { width: 306, ..Licence::without_width(258, Ground::Area(416)) };
+        let of_width = Case::GrantWidth(narrow).encode();
+        assert_eq!(of_width, b"W\x02\x01\0\0\0\xa0\x01\0\0\0\0\0\0\0\0\0\0\0\0\0\0\0\0\x32\x01\0\0");
         assert_eq!(Case::Cancellation(258).encode(), b"C\x02\x01\0\0");
         assert_eq!(Case::Empty.encode(), b"E");
     }

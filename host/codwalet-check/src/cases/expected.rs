@@ -14,7 +14,7 @@ pub const ITEM: usize = 8;
 pub fn lines(case: &Case, ledger: &mut Vec<Licence>) -> String {
     let lines = match case {
         Case::Map { map, numbers } => map_lines(map, numbers),
-        Case::Grant(licence) => {
+        Case::Grant(licence) | Case::GrantWidth(licence) => {
             let next = reference::grant(ledger, *licence);
             vec![format!("grant {}", settle(ledger, next))]
         }
@@ -112,11 +112,11 @@ fn proposals_lines(map: &[u8], ledger: &[Licence], numbers: &[u16], draws: &[u32
 
 /// Coverage and blocks of one area: "zeros for a number that the map lacks".
 fn coverage_lines(area: Option<&Area>, ledger: &[Licence]) -> [String; 5] {
-    let Covered { people, cells } = area.map_or(Covered::default(), |area| reference::covered(ledger, area));
+    let Covered { mhz_pops, cells } = area.map_or(Covered::default(), |area| reference::covered(ledger, area));
     let none = Blocks { whole: 0, value: 0, size: 0 };
     let Blocks { whole, value, size } = area.map_or(none, |area| reference::blocks(ledger, area));
     [
-        format!(" people {people}"),
+        format!(" mhz-pops {mhz_pops}"),
         format!(" cells {cells}"),
         format!(" whole {whole}"),
         format!(" value {value}"),
@@ -193,8 +193,8 @@ pub fn play(map: &[u8], words: &[u32], mask: &mut [u8], table: usize) -> List {
     for item in words.chunks_exact(ITEM) {
         let (kind, word) = (item[0], item[1]);
         let number = match kind {
-            0 => {
-                let next = reference::grant(&list.ledger, Licence { call_sign: word, ground: ground(item) });
+            0 | 4 => {
+                let next = reference::grant(&list.ledger, licence(item));
                 settle(&mut list.ledger, next)
             }
             1 => {
@@ -222,6 +222,13 @@ pub fn play(map: &[u8], words: &[u32], mask: &mut [u8], table: usize) -> List {
     list
 }
 
+/// The licence in an item that grants one, without a width or with one: "A width stands above the low 16 bits of the
+/// fourth word, where an area's number is."
+fn licence(item: &[u32]) -> Licence {
+    let licence = Licence::without_width(item[1], ground(item));
+    if item[0] == 0 { licence } else { Licence { width: item[3] >> 16, ..licence } }
+}
+
 /// The ground in an item: "0 and an area's number, or else anything but 0, a word that is not read, and the edges
 /// south, north, west and east". A number is a u16: of its word the lower half counts.
 fn ground(item: &[u32]) -> Ground {
@@ -239,7 +246,7 @@ mod tests {
 
     /// The licence of holding 10.
     fn one_licence() -> Vec<Licence> {
-        vec![Licence { call_sign: 1, ground: over((0, 0), (2, 3)) }]
+        vec![Licence::without_width(1, over((0, 0), (2, 3)))]
     }
 
     #[test]
@@ -259,7 +266,7 @@ mod tests {
     #[test]
     fn calls_on_the_register() {
         let mut ledger = Vec::new();
-        let licence = Licence { call_sign: 7, ground: Ground::Area(416) };
+        let licence = Licence::without_width(7, Ground::Area(416));
         let calls = [
             (Case::Grant(licence), "grant 0\n", 1),
             (Case::Grant(licence), "grant 9\n", 1),
@@ -277,8 +284,8 @@ mod tests {
     #[test]
     fn proposals() {
         let proposals = |map| Case::Proposals { map, numbers: vec![1, 2], draws: vec![4] };
-        let holding_10 = "coverage 1\n people 7\n cells 2\n whole 0\n value 350\n size 2000\n\
-                          coverage 2\n people 0\n cells 0\n whole 0\n value 0\n size 0\n\
+        let holding_10 = "coverage 1\n mhz-pops 350\n cells 2\n whole 0\n value 350\n size 2000\n\
+                          coverage 2\n mhz-pops 0\n cells 0\n whole 0\n value 0\n size 0\n\
                           propose 4\n kind 3\n target 350\n white 1650\n tied 1\n\
                           \x20area 1\n  blocks 0\n  cells 2\n  share 350\n";
         assert_eq!(lines(&proposals(one_row()), &mut one_licence()), holding_10);
@@ -307,20 +314,35 @@ mod tests {
     const CANCEL_1: [u32; ITEM] = [1, 1, 0, 0, 0, 0, 0, 0];
     const PROPOSE: [u32; ITEM] = [2, 0, 0, 0, 0, 0, 0, 0];
     const FOOTPRINT: [u32; ITEM] = [3, 0, 0, 0, 0, 0, 0, 0];
-    const UNKNOWN: [u32; ITEM] = [4, 1, 0, 1, 0, 0, 0, 0];
+    const UNKNOWN: [u32; ITEM] = [5, 1, 0, 1, 0, 0, 0, 0];
 
     #[test]
     fn lists() {
         // Refused: the first footprint by 13, the second grant by 9, the second cancellation by 11.
         let calls = [FOOTPRINT, GRANT_1, FOOTPRINT, GRANT_1, GRANT_2, PROPOSE, FOOTPRINT, CANCEL_1, CANCEL_1];
-        let mut ledger = vec![Licence { call_sign: 7, ground: Ground::Area(1) }];
+        let mut ledger = vec![Licence::without_width(7, Ground::Area(1))];
         let accepted = lines(&list(one_row(), 4, &calls), &mut ledger);
         assert_eq!(accepted, "list 72\n calls 9\n refused 3\n mask 00110.\n unchanged 5\n");
-        assert_eq!(ledger, [Licence { call_sign: 2, ground: over((0, 0), (2, 3)) }]);
+        assert_eq!(ledger, [Licence::without_width(2, over((0, 0), (2, 3)))]);
         // The proposal and all footprints are refused too: nothing is written.
         let refused = lines(&list(vec![0], 0, &calls), &mut ledger);
         assert_eq!(refused, "list 72\n calls 9\n refused 6\n mask ......\n unchanged 9\n");
-        assert_eq!(ledger, [Licence { call_sign: 2, ground: over((0, 0), (2, 3)) }]);
+        assert_eq!(ledger, [Licence::without_width(2, over((0, 0), (2, 3)))]);
+    }
+
+    #[test]
+    fn widths_in_lists() {
+        let on_area = Licence::without_width(1, Ground::Area(416));
+        let narrow = Licence { width: 7, ..on_area };
+        let item = [4, 1, 0, (7 << 16) + 416, 0, 0, 0, 0];
+        assert_eq!(licence(&item), narrow);
+        assert_eq!(licence(&[4, 1, 1, (50 << 16) + 77, 0, 10, 20, 40]), one_licence()[0]);
+        // Without a width the upper half of the word is not read.
+        assert_eq!(licence(&[0, 1, 0, (7 << 16) + 416, 0, 0, 0, 0]), on_area);
+        // Widths of 0 and of 51 are refused.
+        let (none, wide) = ([4, 2, 0, 416, 0, 0, 0, 0], [4, 3, 1, 51 << 16, 0, 10, 20, 40]);
+        let played = play(&one_row(), &[item, none, wide].concat(), &mut [], 0);
+        assert_eq!((played.ledger, played.refusals), (vec![narrow], vec![6, 6]));
     }
 
     #[test]

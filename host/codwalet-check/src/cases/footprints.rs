@@ -13,13 +13,13 @@ pub const LONG: u16 = 4_000;
 
 /// What a footprint is made with: a draw, the bytes of the mask and the entries of the table.
 #[derive(Clone, Copy)]
-struct Lent {
+pub struct Lent {
     draw: u32,
     mask: u16,
     table: u16,
 }
 
-const fn lent(draw: u32, mask: u16, table: u16) -> Lent {
+pub const fn lent(draw: u32, mask: u16, table: u16) -> Lent {
     Lent { draw, mask, table }
 }
 
@@ -35,7 +35,7 @@ pub fn add(cases: &mut Cases, random: &mut Random) {
 }
 
 /// Footprints on one map. Of each, the entry from which none may change is the first one past those used.
-fn outline(cases: &mut Cases, map: &[u8], lent: &[Lent]) {
+pub fn outline(cases: &mut Cases, map: &[u8], lent: &[Lent]) {
     let call = |lent: &Lent| {
         let mut mask = vec![0; usize::from(lent.mask)];
         let made = reference::footprint(map, cases.ledger(), lent.draw, &mut mask, usize::from(lent.table));

@@ -44,7 +44,7 @@ pub fn add(cases: &mut Cases, random: &mut Random) {
     add_boxes(cases);
     add_tied(cases);
     for _ in 0..40 {
-        add_random(cases, random);
+        add_random(cases, random, random_item);
     }
 }
 
@@ -68,6 +68,18 @@ fn grant_number(call_sign: u32, number: u32) -> Item {
 fn grant_box(call_sign: u32, form: u32, edges: [i32; 4]) -> Item {
     let [south, north, west, east] = edges.map(|edge| edge as u32);
     [0, call_sign, form, UNREAD, south, north, west, east]
+}
+
+/// A grant with a width.
+fn grant_width(call_sign: u32, ground: Ground, width: u16) -> Item {
+    with_width(grant(call_sign, ground), width)
+}
+
+/// A grant, given a width: the upper half of the word that has an area's number in its lower half.
+fn with_width(mut item: Item, width: u16) -> Item {
+    item[0] = 4;
+    item[3] = item[3] % 65_536 + u32::from(width) * 65_536;
+    item
 }
 
 fn cancel(call_sign: u32) -> Item {
@@ -204,7 +216,7 @@ fn add_short_buffers(cases: &mut Cases) {
 /// An item of another kind, before a list, in it and after it: nothing from there on is played.
 fn add_unknown_kinds(cases: &mut Cases) {
     let items = [grant_columns(1), footprint(0), grant_columns(2), footprint(0)];
-    for kind in [4, 9, 65_536, u32::MAX] {
+    for kind in [5, 9, 65_536, 65_540, u32::MAX] {
         // But for its kind it is a grant.
         let mut unknown = grant_columns(3);
         unknown[0] = kind;
@@ -270,12 +282,41 @@ fn add_tied(cases: &mut Cases) {
     }
 }
 
+/// Widths at their limits and past them, and a narrow licence cancelled; then random lists.
+pub fn add_widths(cases: &mut Cases, random: &mut Random) {
+    add_limits_of_widths(cases);
+    add_narrow(cases);
+    for _ in 0..20 {
+        add_random(cases, random, random_item_with_width);
+    }
+}
+
+/// Widths at their limits and past them, on a box and on an area.
+fn add_limits_of_widths(cases: &mut Cases) {
+    let widths = [0, 1, 49, 50, 51, 255, 256, 306, u16::MAX];
+    for ground in [over((0, 0), (2, 3)), Ground::Area(1)] {
+        let grants = grant_each(&widths, |call_sign, width| grant_width(call_sign, ground, width));
+        play(cases, &one_row(), ENOUGH, &[&grants[..], &[propose(0), footprint(0)]].concat());
+        show_coverage(cases, one_row(), &[1]);
+        show_in_force(cases, &[1, 2, 3, 4, 5, 6, 7, 8, 9]);
+    }
+}
+
+/// A width goes with its licence: granted again without one, the call sign has 50 MHz.
+fn add_narrow(cases: &mut Cases) {
+    let [one, seven] = [grant_width(1, over((0, 0), (2, 3)), 1), grant_width(2, Ground::Area(1), 7)];
+    let again = [one, seven, footprint(0), one, cancel(1), footprint(0), grant_columns(1), footprint(0)];
+    play_by_footprint(cases, &one_row(), lent(6, 20), &again);
+    show_coverage(cases, one_row(), &[1]);
+    show_in_force(cases, &[1, 2]);
+}
+
 /// Some calls on a small map, which may be damaged, with buffers that may be too short.
-fn add_random(cases: &mut Cases, random: &mut Random) {
+fn add_random(cases: &mut Cases, random: &mut Random, item: fn(&mut Random) -> Item) {
     let good = random_map(random);
     let map = if random.once_in(4) { damaged(random, good) } else { good };
     let count = random.between(4, 12);
-    let items: Vec<Item> = (0..count).map(|_| random_item(random)).collect();
+    let items: Vec<Item> = (0..count).map(|_| item(random)).collect();
     let lent = lent(random.pick(&[42, 45, 45, 45, 64, 64, 64, 4]), random.pick(&[LONG, LONG, LONG, 12, 12, 0]));
     play(cases, &map, lent, &items);
     show_in_force(cases, &[1, 2, 3, 4, 5]);
@@ -290,8 +331,16 @@ fn random_item(random: &mut Random) -> Item {
         16..20 => cancel(call_sign),
         20..25 => propose(draw),
         25..39 => footprint(draw),
-        _ => call(4, call_sign),
+        _ => call(5, call_sign),
     }
+}
+
+/// The same, with a width in each grant, which is most often well formed.
+fn random_item_with_width(random: &mut Random) -> Item {
+    let any = random.between(1, 50) as u16;
+    let width = random.pick(&[any, any, any, any, 1, 49, 50, 51, 0]);
+    let item = random_item(random);
+    if item[0] == 0 { with_width(item, width) } else { item }
 }
 
 /// Any ground, or a box over the first rows and columns, where small areas too have cells.
@@ -310,7 +359,9 @@ mod tests {
 
     fn each_list() -> Vec<Case> {
         let mut cases = Cases::default();
-        add(&mut cases, &mut Random::new(1));
+        let mut random = Random::new(1);
+        add(&mut cases, &mut random);
+        add_widths(&mut cases, &mut random);
         let each = cases.played.into_iter().map(|played| played.case);
         each.filter(|case| matches!(case, Case::List { .. })).collect()
     }
@@ -339,11 +390,8 @@ mod tests {
 
     #[test]
     fn one_mask_for_tied_areas() {
-        let mut cases = Cases::default();
-        add_tied(&mut cases);
-        let printed: Vec<&str> = cases.played.iter().flat_map(|played| played.lines.lines()).collect();
-        let masks: Vec<&str> = printed.iter().filter_map(|line| line.strip_prefix(" mask ")).collect();
         let [one, two, three] = ["010.....", "011010..", "1011...."];
+        let masks = Cases::printed(add_tied, " mask ");
         assert_eq!(masks, [one, two, three, two, one, "010010..", "0101....", "101110.."]);
     }
 }

@@ -1,35 +1,44 @@
 //! The reference's answers in the form of the C interface, to be compared field by field.
 
-use crate::reference::{self, Area, Covered, Gets, Given, Ground, Licence};
+use crate::reference::{self, Area, Covered, Gets, Given, Ground, Licence, Made, Proposal, Refused};
 use codwalet::limits::{AREAS, LICENCES};
-use codwalet::raw::{self, GROUND_AREA, GROUND_BOX, Register};
+use codwalet::raw::{self, FULL_WIDTH, GROUND_AREA, GROUND_BOX, Register};
 
 /// The register with all bytes 0.
 pub const NO_LICENCE: Register = Register { places: [FREE; LICENCES] };
 
 /// A place with all bytes 0.
 pub const FREE: raw::Licence =
-    raw::Licence { call_sign: 0, area: 0, kind: 0, unused: 0, south: 0, north: 0, west: 0, east: 0 };
+    raw::Licence { call_sign: 0, area: 0, kind: 0, narrower_by: 0, south: 0, north: 0, west: 0, east: 0 };
 
-/// A licence of the C interface as document 01 has it. A ground of another kind is ill-formed and covers nothing, as
-/// area number 0 does.
-pub fn licence(raw: &raw::Licence) -> Licence {
-    let ground = match raw.kind {
+/// The ground of a licence. One of another kind is ill-formed and covers nothing, as area number 0 does.
+fn ground(raw: &raw::Licence) -> Ground {
+    match raw.kind {
         GROUND_AREA => Ground::Area(raw.area),
         GROUND_BOX => Ground::Box { south: raw.south, north: raw.north, west: raw.west, east: raw.east },
         _ => Ground::Area(0),
-    };
-    Licence { call_sign: raw.call_sign, ground }
+    }
 }
 
-/// A licence as the C interface writes it: what its ground has no use for is 0.
+/// The licence at a place of a register. "A forged byte of 50 or more leaves a width of 0."
+pub fn licence(raw: &raw::Licence) -> Licence {
+    let width = FULL_WIDTH.saturating_sub(u32::from(raw.narrower_by));
+    Licence { call_sign: raw.call_sign, ground: ground(raw), width }
+}
+
+/// The licence that a grant is handed, with its width if it has one. "Neither grant reads this byte", `narrower_by`.
+pub fn handed(raw: &raw::Licence, width: Option<u32>) -> Licence {
+    let licence = Licence::without_width(raw.call_sign, ground(raw));
+    Licence { width: width.unwrap_or(licence.width), ..licence }
+}
+
+/// A licence as a register holds it: what its ground has no use for is 0. Its width is at most 50.
 pub fn raw_licence(licence: &Licence) -> raw::Licence {
-    let call_sign = licence.call_sign;
+    let narrower_by = FULL_WIDTH.saturating_sub(licence.width) as u8;
+    let free = raw::Licence { call_sign: licence.call_sign, narrower_by, ..FREE };
     match licence.ground {
-        Ground::Area(area) => raw::Licence { call_sign, area, kind: GROUND_AREA, ..FREE },
-        Ground::Box { south, north, west, east } => {
-            raw::Licence { call_sign, kind: GROUND_BOX, south, north, west, east, ..FREE }
-        }
+        Ground::Area(area) => raw::Licence { area, kind: GROUND_AREA, ..free },
+        Ground::Box { south, north, west, east } => raw::Licence { kind: GROUND_BOX, south, north, west, east, ..free },
     }
 }
 
@@ -71,11 +80,11 @@ pub fn look_up(map: &[u8], number: u16) -> raw::Area {
     }
 }
 
-/// The people and the cells covered in the area with a number.
+/// The MHz-pops and the cells covered in the area with a number.
 pub fn coverage(map: &[u8], lines: &[Licence], number: u16) -> raw::Covered {
     match reference::coverage(map, lines, number) {
         Err(refusal) => raw::Covered { refusal, ..raw::Covered::default() },
-        Ok(Covered { people, cells }) => raw::Covered { people, cells, ..raw::Covered::default() },
+        Ok(Covered { mhz_pops, cells }) => raw::Covered { mhz_pops, cells, ..raw::Covered::default() },
     }
 }
 
@@ -114,8 +123,13 @@ fn raw_given(given: &Given) -> raw::Given {
 
 /// The proposal with a draw.
 pub fn propose(map: &[u8], lines: &[Licence], draw: u32) -> raw::Proposal {
+    propose_by(map, |areas| reference::propose(areas, lines, draw))
+}
+
+/// The proposal that areas are found to have, where the map is accepted.
+pub fn propose_by(map: &[u8], find: impl Fn(&[Area]) -> Result<Proposal, u32>) -> raw::Proposal {
     let areas = reference::read_map(map).map_err(|fault| fault.number);
-    let proposal = match areas.and_then(|areas| reference::propose(&areas, lines, draw)) {
+    let proposal = match areas.and_then(|areas| find(&areas)) {
         Err(refusal) => return raw::Proposal { refusal, ..NO_PROPOSAL },
         Ok(proposal) => proposal,
     };
@@ -135,7 +149,12 @@ pub fn propose(map: &[u8], lines: &[Licence], draw: u32) -> raw::Proposal {
 
 /// The footprint with a draw, into a mask, and how many entries of the table may have been used.
 pub fn footprint(map: &[u8], lines: &[Licence], draw: u32, mask: &mut [u8], entries: usize) -> (raw::Outline, usize) {
-    match reference::footprint(map, lines, draw, mask, entries) {
+    outlined(reference::footprint(map, lines, draw, mask, entries))
+}
+
+/// What a footprint answers, and how many entries of the table may have been used.
+pub fn outlined(made: Result<Made, Refused>) -> (raw::Outline, usize) {
+    match made {
         Ok(made) => (raw::Outline { area: u32::from(made.number), ..raw::Outline::default() }, made.used),
         Err(refused) => (raw::Outline { refusal: refused.number, area: 0, needed: refused.needed as u64 }, 0),
     }

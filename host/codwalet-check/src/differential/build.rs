@@ -8,7 +8,7 @@ use crate::maps::write_map;
 use crate::random::Random;
 use crate::reference::{Area, Cell, Ground, Licence};
 use codwalet::limits::{AREA_NUMBER, LATITUDE, LICENCES, LONGITUDE};
-use codwalet::raw::Register;
+use codwalet::raw::{FULL_WIDTH, Register};
 
 /// How an area is made at random.
 #[derive(Clone, Copy)]
@@ -130,15 +130,61 @@ pub fn grounds(random: &mut Random, areas: &[Area], count: i64) -> Vec<Ground> {
     (0..count).map(|_| ground(random, areas)).collect()
 }
 
-/// A register with a licence for each ground, up to its limit, in any places.
-pub fn register(random: &mut Random, grounds: &[Ground]) -> Register {
+/// A width, in MHz: often at an end.
+pub fn width(random: &mut Random) -> u32 {
+    match random.below(3) {
+        0 => random.pick(&[1, 2, 49, FULL_WIDTH]),
+        _ => random.between(1, i64::from(FULL_WIDTH)) as u32,
+    }
+}
+
+/// A ground of a licence, and its width in MHz.
+pub type Held = (Ground, u32);
+
+/// Licences with these grounds, each of 50 MHz.
+pub fn full(grounds: &[Ground]) -> Vec<Held> {
+    grounds.iter().map(|&ground| (ground, FULL_WIDTH)).collect()
+}
+
+/// The same with some licences cut into slices, as long as a register has places: the MHz-pops are those of before.
+pub fn sliced(random: &mut Random, grounds: &[Ground]) -> Vec<Held> {
+    let mut held = Vec::new();
+    let mut spare = LICENCES.saturating_sub(grounds.len());
+    for &ground in grounds {
+        let mut left = FULL_WIDTH;
+        while left > 1 && spare > 0 && !random.once_in(3) {
+            let slice = width(random).min(left - 1);
+            held.push((ground, slice));
+            left -= slice;
+            spare -= 1;
+        }
+        held.push((ground, left));
+    }
+    held
+}
+
+/// Licences with these grounds: of 50 MHz, the same in slices, of any widths, or of one width or two.
+pub fn of_widths(random: &mut Random, grounds: &[Ground]) -> Vec<Held> {
+    match random.below(6) {
+        0..2 => full(grounds),
+        2..4 => sliced(random, grounds),
+        4 => grounds.iter().map(|&ground| (ground, width(random))).collect(),
+        _ => {
+            let few = [width(random), width(random)];
+            grounds.iter().map(|&ground| (ground, random.pick(&few))).collect()
+        }
+    }
+}
+
+/// A register with licences, up to its limit, in any places.
+pub fn register(random: &mut Random, held: &[Held]) -> Register {
     let mut places: Vec<usize> = (0..LICENCES).collect();
     random.shuffle(&mut places);
     let mut register = NO_LICENCE;
-    for (number, (&place, &ground)) in places.iter().zip(grounds).enumerate() {
+    for (number, (&place, &(ground, width))) in places.iter().zip(held).enumerate() {
         // Different for each number, and above 0.
         let call_sign = (number as u32 + 1) * 1_000 + random.below(1_000) as u32;
-        register.places[place] = raw_licence(&Licence { call_sign, ground });
+        register.places[place] = raw_licence(&Licence { call_sign, ground, width });
     }
     register
 }
@@ -180,11 +226,18 @@ pub fn read_call(random: &mut Random, areas: &[Area]) -> Call {
     }
 }
 
-/// A case of so many calls that read a map of these areas and a register of licences with these grounds.
+/// A case of so many calls that read a map of these areas and a register of licences with these grounds, of 50 MHz or
+/// of other widths.
 pub fn reading(random: &mut Random, areas: &[Area], grounds: &[Ground], calls: usize) -> Case {
+    let held = of_widths(random, grounds);
+    reading_held(random, areas, &held, calls)
+}
+
+/// The same for licences whose widths are given.
+pub fn reading_held(random: &mut Random, areas: &[Area], held: &[Held], calls: usize) -> Case {
     Case {
         map: write_map(areas),
-        start: Some(register(random, grounds)),
+        start: Some(register(random, held)),
         calls: (0..calls).map(|_| read_call(random, areas)).collect(),
         fill: random.word(),
     }

@@ -8,6 +8,8 @@ use codwalet::raw::{GROUND_AREA, GROUND_BOX, Licence, Register};
 #[derive(Clone, Copy, Debug, PartialEq, Eq)]
 pub enum Call {
     Grant(Licence),
+    /// A grant of so many MHz.
+    GrantWidth(Licence, u32),
     Cancel(u32),
     CheckMap,
     LookUp(u16),
@@ -38,14 +40,14 @@ pub struct Words<'a>(pub &'a Licence);
 
 impl Display for Words<'_> {
     fn fmt(&self, out: &mut Formatter<'_>) -> fmt::Result {
-        let Licence { call_sign, area, kind, unused, south, north, west, east } = self.0;
+        let Licence { call_sign, area, kind, narrower_by, south, north, west, east } = self.0;
         let ground = match *kind {
             GROUND_AREA => "area",
             GROUND_BOX => "box",
             _ => "ill-formed",
         };
         write!(out, "call sign {call_sign}, kind {kind} ({ground}), area {area}, ")?;
-        write!(out, "south {south}, north {north}, west {west}, east {east}, unused {unused}")
+        write!(out, "south {south}, north {north}, west {west}, east {east}, narrower by {narrower_by}")
     }
 }
 
@@ -53,6 +55,7 @@ impl Display for Call {
     fn fmt(&self, out: &mut Formatter<'_>) -> fmt::Result {
         match self {
             Call::Grant(licence) => write!(out, "grant {}", Words(licence)),
+            Call::GrantWidth(licence, width) => write!(out, "grant {width} MHz, {}", Words(licence)),
             Call::Cancel(call_sign) => write!(out, "cancel call sign {call_sign}"),
             Call::CheckMap => write!(out, "check the map"),
             Call::LookUp(number) => write!(out, "look up area {number}"),

@@ -107,7 +107,8 @@ pub fn run(engine: &impl Engine, case: &Case) -> Outcome {
 impl<E: Engine> Run<'_, E> {
     fn call(&mut self, call: &Call) -> Compared {
         match *call {
-            Call::Grant(licence) => self.grant(licence),
+            Call::Grant(licence) => self.grant(licence, None),
+            Call::GrantWidth(licence, width) => self.grant(licence, Some(width)),
             Call::Cancel(call_sign) => self.cancel(call_sign),
             Call::CheckMap => {
                 let expected = answers::check_map(self.map);
@@ -128,6 +129,7 @@ impl<E: Engine> Run<'_, E> {
             Call::Blocks(number) => {
                 let expected = answers::blocks(self.map, &self.lines, number);
                 self.seen.refusal(expected.refusal);
+                self.seen.sorts(&sorts::of_blocks(self.map, &self.lines, number));
                 same_fields(&expected, &self.engine.blocks(self.map, self.register, number))
             }
             Call::Propose(draw) => {
@@ -146,11 +148,16 @@ impl<E: Engine> Run<'_, E> {
         same("areas listed", &looked_up, &self.engine.areas(self.map))
     }
 
-    fn grant(&mut self, licence: Licence) -> Compared {
+    fn grant(&mut self, licence: Licence, width: Option<u32>) -> Compared {
         let before = self.register;
-        let step = self.engine.grant(before, licence);
-        let expected = reference::grant(&self.lines, answers::licence(&licence));
-        let granted = answers::raw_licence(&answers::licence(&licence));
+        let step = match width {
+            None => self.engine.grant(before, licence),
+            Some(width) => self.engine.grant_width(before, licence, width),
+        };
+        let handed = answers::handed(&licence, width);
+        let expected = reference::grant(&self.lines, handed);
+        let granted = answers::raw_licence(&handed);
+        self.seen.sorts(&sorts::of_grant(&self.lines, &licence, width));
         self.step(expected, &step, |place, next| {
             let changed = before.places[place] != *next;
             !changed || before.places[place].call_sign == 0 && *next == granted
@@ -207,6 +214,7 @@ impl<E: Engine> Run<'_, E> {
         let mut left = lent.clone();
         let (expected, used) = answers::footprint(self.map, &self.lines, draw, left.mask.part_mut(), entries);
         self.seen.footprint(&expected, used);
+        self.seen.sorts(&sorts::of_footprint(self.map, &self.lines, &expected));
         let got = self.engine.footprint(self.map, self.register, draw, &mut lent);
         same_fields(&expected, &got)?;
         same_lent("mask", &left.mask, &lent.mask, 0)?;

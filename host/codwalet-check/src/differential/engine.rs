@@ -77,8 +77,10 @@ pub struct Buffers {
 pub trait Engine {
     /// The register with no licence in force.
     fn empty(&self) -> Register;
-    /// The register with a licence granted.
+    /// The register with a licence granted without a width.
     fn grant(&self, current: Register, licence: Licence) -> Step;
+    /// The register with a licence of so many MHz granted.
+    fn grant_width(&self, current: Register, licence: Licence, width: u32) -> Step;
     /// The register with a licence cancelled.
     fn cancel(&self, current: Register, call_sign: u32) -> Step;
     /// 0 if the map is accepted, else its refusal.
@@ -87,7 +89,7 @@ pub trait Engine {
     fn look_up(&self, map: &[u8], number: u16) -> Area;
     /// The areas of an accepted map with their numbers, as the library lists them; none of a refused one.
     fn areas(&self, map: &[u8]) -> Vec<(u16, Area)>;
-    /// The people and the cells covered in the area with a number.
+    /// The MHz-pops and the cells covered in the area with a number.
     fn coverage(&self, map: &[u8], current: Register, number: u16) -> Covered;
     /// The blocks of the area with a number.
     fn blocks(&self, map: &[u8], current: Register, number: u16) -> Held;
@@ -107,6 +109,10 @@ impl Engine for Proved {
 
     fn grant(&self, current: Register, licence: Licence) -> Step {
         raw::codwalet_grant(current, licence)
+    }
+
+    fn grant_width(&self, current: Register, licence: Licence, width: u32) -> Step {
+        raw::codwalet_grant_width(current, licence, width)
     }
 
     fn cancel(&self, current: Register, call_sign: u32) -> Step {

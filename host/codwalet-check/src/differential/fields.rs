@@ -29,7 +29,7 @@ impl Fields for Area {
 impl Fields for Covered {
     fn fields(&self) -> Vec<(String, u64)> {
         named([
-            ("people", self.people),
+            ("MHz-pops", self.mhz_pops),
             ("cells", self.cells),
             ("refusal", self.refusal.into()),
             ("unused", self.unused.into()),

@@ -5,6 +5,7 @@ mod damage;
 mod footprints;
 mod limits;
 mod registers;
+mod widths;
 
 use super::build::{self, SMALL, Style};
 use super::case::{Call, Case};
@@ -19,7 +20,7 @@ pub struct Kind {
 }
 
 /// All kinds.
-pub const KINDS: [Kind; 19] = [
+pub const KINDS: [Kind; 22] = [
     Kind { name: "small maps with ties", make: small_maps },
     Kind { name: "99 and 90 in the hundred", make: near_whole },
     Kind { name: "maps at the limits", make: limits::case },
@@ -39,6 +40,9 @@ pub const KINDS: [Kind; 19] = [
     Kind { name: "large slacks", make: footprints::large_slacks },
     Kind { name: "areas alike but for cells", make: cells::alike },
     Kind { name: "greatest counts of cells", make: cells::greatest },
+    Kind { name: "a MHz-pop beside 99 and 90", make: widths::near_whole },
+    Kind { name: "narrow licences", make: widths::narrow },
+    Kind { name: "footprints of two widths", make: widths::starts },
 ];
 
 /// Small maps, whose areas are often worth the same.
@@ -69,7 +73,8 @@ fn near_whole(random: &mut Random) -> Case {
         grounds.extend(vec![Ground::Area(number); 1 + 2 * random.below(3)]);
         areas.push(area);
     }
-    build::reading(random, &areas, &grounds, 8)
+    let held = build::sliced(random, &grounds);
+    build::reading_held(random, &areas, &held, 8)
 }
 
 /// Look-ups of numbers that a map has, lacks, or that no map may have.

@@ -19,7 +19,7 @@ pub struct Seen {
     /// Footprints without a last ring, and with one.
     even: usize,
     last_ring: usize,
-    /// Sorts of counts of cells, by name.
+    /// Sorts of cells and widths, by name.
     sorts: BTreeMap<&'static str, usize>,
 }
 
@@ -44,7 +44,7 @@ impl Seen {
         }
     }
 
-    /// Counts the sorts of a coverage or a proposal.
+    /// Counts the sorts of an answer.
     pub fn sorts(&mut self, names: &[&'static str]) {
         names.iter().for_each(|name| *self.sorts.entry(name).or_default() += 1);
     }

@@ -3,17 +3,18 @@
 use std::time::{Duration, Instant};
 
 use super::answers::FREE;
-use super::case::Case;
+use super::case::{Call, Case};
 use super::compare;
 use super::engine::Engine;
 use crate::maps::write_map;
 use crate::reference::{self, Area};
 use codwalet::limits::LICENCES;
+use codwalet::raw::Licence;
 
 /// The time that one case may take.
 const TIME: Duration = Duration::from_secs(5);
 
-/// Drops calls, licences, areas and cells for as long as the case still differs.
+/// Drops calls, licences, widths, areas and cells for as long as the case still differs.
 pub fn shrink(engine: &impl Engine, case: &Case) -> Case {
     let end = Instant::now() + TIME;
     let mut case = case.clone();
@@ -22,6 +23,7 @@ pub fn shrink(engine: &impl Engine, case: &Case) -> Case {
         let before = case.clone();
         case = drop_calls(case, &mut differs);
         case = drop_licences(case, &mut differs);
+        case = drop_widths(case, &mut differs);
         case = drop_areas(case, &mut differs);
         case = drop_cells(case, &mut differs);
         if case == before {
@@ -67,6 +69,40 @@ fn drop_licences(case: Case, differs: &mut impl FnMut(&Case) -> bool) -> Case {
     };
     let held = (0..LICENCES).filter(|&place| start.places[place] != FREE).collect();
     with(&fewer(held, |kept| differs(&with(kept))))
+}
+
+/// Makes licences 50 MHz wide, and grants such as have no width, so that a width which stays is seen to count.
+fn drop_widths(mut case: Case, differs: &mut impl FnMut(&Case) -> bool) -> Case {
+    let mut attempt = |case: &mut Case, full: Case| {
+        if full != *case && differs(&full) {
+            *case = full;
+        }
+    };
+    for place in 0..LICENCES {
+        let mut full = case.clone();
+        full.start.iter_mut().for_each(|start| start.places[place].narrower_by = 0);
+        attempt(&mut case, full);
+    }
+    for place in 0..case.calls.len() {
+        for full_call in full_calls(&case.calls[place]) {
+            let mut full = case.clone();
+            full.calls[place] = full_call;
+            attempt(&mut case, full);
+        }
+    }
+    case
+}
+
+/// A grant without its width, then without the byte that no grant reads, or with the width and without the byte.
+fn full_calls(call: &Call) -> Vec<Call> {
+    match *call {
+        Call::Grant(licence) => vec![Call::Grant(Licence { narrower_by: 0, ..licence })],
+        Call::GrantWidth(licence, width) => {
+            let blank = Licence { narrower_by: 0, ..licence };
+            vec![Call::GrantWidth(blank, width), Call::Grant(licence), Call::Grant(blank)]
+        }
+        _ => Vec::new(),
+    }
 }
 
 /// A map that is refused stays as it is: what is wrong with it may be all that counts.

@@ -2,11 +2,12 @@
 
 mod cells;
 mod plain;
+mod widths;
 
 use std::time::Duration;
 
 use super::answers::{self, FREE, NO_LICENCE};
-use super::case::Case;
+use super::case::{Call, Case};
 use super::compare::{self, Difference};
 use super::engine::{Buffers, Engine, Lent};
 use super::kinds::KINDS;
@@ -40,10 +41,31 @@ mistakes! {
     GrantTakesTwoPlaces,
     GrantTakesAPlaceInForce,
     GrantKeepsWhatIsUnused,
+    GrantReadsTheByte,
+    GrantRefusesTheByte,
+    GrantKeepsTheWidthOfThePlace,
+    GrantWidthReadsTheByte,
+    GrantWidthIsIgnored,
+    GrantWidthIsStoredAsItIs,
+    GrantWidthOfNoneIsFull,
+    GrantWidthOf51,
+    GrantWidthOfALowByte,
+    GrantWidthOfALowHalf,
+    GrantWidthOfFullIsRefused,
+    GrantWidthOfOneIsRefused,
+    GrantWidthAfterInForce,
+    GrantWidthAfterFull,
     RefusedGrantChangesARegister,
     CancelReturnsItsRegister,
     CancelStrikesOneOfTwo,
     CancelLeavesTheGround,
+    CancelLeavesTheWidth,
+    CancelledLicencesCount,
+    FreePlacesCount,
+    WidthIsIgnored,
+    WidthWrapsInAByte,
+    NoWidthIsFull,
+    NoWidthIsOne,
     MapIsNeverRefused,
     LookUpRefusal,
     LookUpWeight,
@@ -55,7 +77,11 @@ mistakes! {
     AreasLackTheLast,
     AreasAreOutOfOrder,
     AreasStartElsewhere,
-    CoveragePeople,
+    CoverageMhzPops,
+    CoverageInPeople,
+    CoverageCellsTimesWidth,
+    CoverageCellsOfNoWidth,
+    CoverageIn32Bits,
     CoverageOfALackingArea,
     CoverageCells,
     CoverageCellsOfALackingArea,
@@ -70,6 +96,12 @@ mistakes! {
     BlocksSize,
     BlocksUnused,
     BlocksOfCoveredPopulation,
+    BlocksOfTheOldSize,
+    BlocksNinetyNineOfOld,
+    BlocksNinetyNineStrictly,
+    BlocksNinetyNineOfPeople,
+    BlocksValueOfOld,
+    BlocksValueOfPeople,
     ProposalKindIsExact,
     ProposalTiedIsOne,
     ProposalIgnoresTheDraw,
@@ -86,8 +118,19 @@ mistakes! {
     ProposalOfPlaces,
     ProposalOfPartialAreasAlone,
     ProposalOfCoveredPopulation,
+    ProposalCellsTimesWidth,
+    ProposalCellsOfNoWidth,
+    ProposalOfTheOldSize,
+    ProposalNinetyNineOfOld,
+    ProposalNinetyNineStrictly,
+    ProposalNinetyNineOfPeople,
+    ProposalValueOfOld,
+    ProposalValueOfPeople,
+    ProposalNinetyStrictly,
     ProposalTiesByCells,
     FootprintIsTheWholeArea,
+    FootprintOfFullWidth,
+    FootprintOfSomeWidth,
     FootprintArea,
     MaskAfterTheArea,
     MaskGuardBefore,
@@ -108,14 +151,34 @@ impl Wrong {
     }
 
     /// Puts a licence into the first free place of a register.
-    fn put(&self, register: &mut Register, licence: Licence) {
+    fn put(&self, register: &mut Register, licence: Licence, width: Option<u32>) {
         let wanted = |place: &&mut Licence| (place.call_sign == 0) != self.is(GrantTakesAPlaceInForce);
-        let granted = match self.0 {
-            GrantKeepsWhatIsUnused => licence,
-            _ => answers::raw_licence(&answers::licence(&licence)),
-        };
         let places = if self.is(GrantTakesTwoPlaces) { 2 } else { 1 };
-        register.places.iter_mut().filter(wanted).take(places).for_each(|place| *place = granted);
+        for place in register.places.iter_mut().filter(wanted).take(places) {
+            let before = place.narrower_by;
+            *place = match self.0 {
+                GrantKeepsWhatIsUnused => licence,
+                _ => answers::raw_licence(&self.due(&licence, width)),
+            };
+            self.spoil_width(before, &licence, width, place);
+        }
+    }
+
+    /// A grant with a width or without, as the interface takes it.
+    fn step(&self, current: Register, licence: Licence, width: Option<u32>) -> Step {
+        let lines = answers::lines(&current);
+        let refusal = match reference::grant(&lines, self.due(&licence, width)) {
+            _ if self.is(GrantRefusesAll) => 10,
+            Err(9) if self.is(GrantTakesTwice) && lines.len() < 64 => 0,
+            answer => self.spoil_refusal(&lines, &licence, width, answer.err().unwrap_or(0)),
+        };
+        let mut next = current;
+        if refusal == 0 {
+            self.put(&mut next, licence, width);
+        } else if self.is(RefusedGrantChangesARegister) {
+            next.places[63].narrower_by ^= 1;
+        }
+        Step { next, refusal }
     }
 
     fn spoil_outline(&self, outline: &mut Outline) {
@@ -158,20 +221,11 @@ impl Engine for Wrong {
     }
 
     fn grant(&self, current: Register, licence: Licence) -> Step {
-        let lines = answers::lines(&current);
-        let refusal = match reference::grant(&lines, answers::licence(&licence)) {
-            _ if self.is(GrantRefusesAll) => 10,
-            Err(9) if self.is(GrantTakesTwice) && lines.len() < 64 => 0,
-            Err(refusal) => refusal,
-            Ok(_) => 0,
-        };
-        let mut next = current;
-        if refusal == 0 {
-            self.put(&mut next, licence);
-        } else if self.is(RefusedGrantChangesARegister) {
-            next.places[63].unused ^= 1;
-        }
-        Step { next, refusal }
+        self.step(current, licence, None)
+    }
+
+    fn grant_width(&self, current: Register, licence: Licence, width: u32) -> Step {
+        self.step(current, licence, Some(width))
     }
 
     fn cancel(&self, current: Register, call_sign: u32) -> Step {
@@ -182,7 +236,8 @@ impl Engine for Wrong {
             match self.0 {
                 _ if refusal != 0 => {}
                 CancelReturnsItsRegister => {}
-                CancelLeavesTheGround => place.call_sign = 0,
+                CancelLeavesTheGround | CancelledLicencesCount => place.call_sign = 0,
+                CancelLeavesTheWidth => *place = Licence { narrower_by: place.narrower_by, ..FREE },
                 _ => *place = FREE,
             }
         }
@@ -220,19 +275,21 @@ impl Engine for Wrong {
     }
 
     fn coverage(&self, map: &[u8], current: Register, number: u16) -> Covered {
-        let lines = answers::lines(&current);
+        let lines = self.lines(&current);
         let mut covered = answers::coverage(map, &lines, number);
         match self.0 {
-            CoveragePeople => covered.people += 1,
+            CoverageMhzPops => covered.mhz_pops += 1,
             CoverageCells => covered.cells += 1,
-            CoverageOfALackingArea if answers::look_up(map, number).rows == 0 => covered.people = 1,
+            CoverageOfALackingArea if answers::look_up(map, number).rows == 0 => covered.mhz_pops = 1,
+            CoverageInPeople => covered.mhz_pops = answers::coverage(map, &widths::of_one_mhz(&lines), number).mhz_pops,
+            CoverageIn32Bits => covered.mhz_pops = u64::from(covered.mhz_pops as u32),
             _ => self.spoil_coverage(map, &lines, number, &mut covered),
         }
         covered
     }
 
     fn blocks(&self, map: &[u8], current: Register, number: u16) -> Held {
-        let lines = answers::lines(&current);
+        let lines = self.lines(&current);
         let mut held = answers::blocks(map, &lines, number);
         match self.0 {
             BlocksOfCoveredPopulation => held = answers::blocks(&cells::covered_alone(map, &lines), &lines, number),
@@ -240,15 +297,17 @@ impl Engine for Wrong {
             BlocksValue => held.value += 1,
             BlocksSize => held.size += 1,
             BlocksUnused => held.unused += 1,
-            _ => {}
+            _ => self.spoil_blocks(map, &lines, number, &mut held),
         }
         held
     }
 
     fn propose(&self, map: &[u8], current: Register, draw: u32) -> Proposal {
         let draw = if self.is(ProposalIgnoresTheDraw) { 0 } else { draw };
-        let lines = answers::lines(&current);
+        let lines = self.lines(&current);
         let mut proposal = match self.0 {
+            _ if widths::proposal_rule(self.0).is_some() => widths::propose(self.0, map, &lines, draw),
+            ProposalNinetyStrictly => widths::ninety_strictly(map, &lines, draw),
             ProposalOfCoveredPopulation => answers::propose(&cells::covered_alone(map, &lines), &lines, draw),
             ProposalTiesByCells => cells::tied_by_cells(map, &lines, draw),
             _ => answers::propose(map, &lines, draw),
@@ -271,8 +330,8 @@ impl Engine for Wrong {
 
     fn footprint(&self, map: &[u8], current: Register, draw: u32, lent: &mut Buffers) -> Outline {
         let before = lent.mask.clone();
-        let (lines, entries) = (answers::lines(&current), lent.table.part().len());
-        let (mut outline, used) = answers::footprint(map, &lines, draw, lent.mask.part_mut(), entries);
+        let (lines, entries) = (self.lines(&current), lent.table.part().len());
+        let (mut outline, used) = self.outline(map, &lines, draw, lent.mask.part_mut(), entries);
         self.spoil_outline(&mut outline);
         self.spoil_mask(&before, &mut lent.mask, &outline);
         self.spoil_table(&mut lent.table, used);
@@ -331,16 +390,52 @@ fn a_case_that_differs_gets_smaller() {
     assert!(compare::run(&Wrong(ProposalTiedIsOne), &small).difference.is_some());
 }
 
+/// A width stays where it counts, and nowhere else.
+#[test]
+fn a_case_that_differs_loses_its_widths() {
+    let cases = cases(10);
+    let narrow = |mistake: Mistake| {
+        let (case, _) = first_difference(&cases, mistake).expect("a case");
+        let small = shrink(&Wrong(mistake), case);
+        assert!(compare::run(&Wrong(mistake), &small).difference.is_some(), "{mistake:?}");
+        let places = small.start.map_or(0, |start| start.places.iter().filter(|place| place.narrower_by > 0).count());
+        let with_width = small.calls.iter().filter(|call| matches!(call, Call::GrantWidth(..))).count();
+        let has_byte = |call: &&Call| match call {
+            Call::Grant(licence) | Call::GrantWidth(licence, _) => licence.narrower_by > 0,
+            _ => false,
+        };
+        (places, with_width, small.calls.iter().filter(has_byte).count())
+    };
+    assert_eq!(narrow(CoverageInPeople), (0, 0, 0));
+    assert_eq!(narrow(WidthIsIgnored), (1, 0, 0));
+    assert_eq!(narrow(GrantTakesTwoPlaces), (0, 0, 0));
+    assert_eq!(narrow(GrantWidthOfALowByte), (0, 1, 0));
+    assert_eq!(narrow(GrantReadsTheByte), (0, 0, 1));
+}
+
+/// A case is printed with its widths.
+#[test]
+fn widths_are_printed() {
+    let licence = Licence { call_sign: 7, area: 416, narrower_by: 30, ..FREE };
+    let words = "call sign 7, kind 0 (area), area 416, south 0, north 0, west 0, east 0, narrower by 30";
+    assert_eq!(Call::Grant(licence).to_string(), format!("grant {words}"));
+    assert_eq!(Call::GrantWidth(licence, 306).to_string(), format!("grant 306 MHz, {words}"));
+    let mut start = NO_LICENCE;
+    start.places[5] = licence;
+    let case = Case { map: Vec::new(), start: Some(start), calls: Vec::new(), fill: 0 };
+    assert!(case.to_string().contains(&format!("  place 5: {words}\n")), "{case}");
+}
+
 #[test]
 fn cases_that_differ_are_written_down() {
     let folder = std::env::temp_dir().join(format!("codwalet-differ-{}", std::process::id()));
     let mut said = Vec::new();
-    let mut test = Test::new(&Wrong(CoveragePeople), &folder, &mut said);
+    let mut test = Test::new(&Wrong(CoverageMhzPops), &folder, &mut said);
     test.round(7, Duration::from_secs(2)).expect("a folder to write to");
     assert_eq!(test.differed(), MOST_DIFFERENCES);
     for number in 1..=MOST_DIFFERENCES {
         let text = std::fs::read_to_string(folder.join(format!("7-{number}.txt"))).expect("a case");
-        let [before, after] = text.split("differs at call 1: people").collect::<Vec<_>>()[..] else {
+        let [before, after] = text.split("differs at call 1: MHz-pops").collect::<Vec<_>>()[..] else {
             panic!("no difference in {text}");
         };
         assert!(before.contains("map, ") && before.contains("  1: coverage of area "), "{text}");

@@ -16,20 +16,21 @@ impl Ground {
     }
 }
 
-/// What licences in force cover in an area: c, and "the count of covered cells".
+/// What licences in force cover in an area: c, in MHz-pops, and "the count of covered cells".
 #[derive(Clone, Copy, Debug, Default, PartialEq, Eq)]
 pub struct Covered {
-    pub people: u64,
+    pub mhz_pops: u64,
     pub cells: u64,
 }
 
-/// "For an area, c is the sum, over licences in force, of the people in covered cells." Beside it document 02 has the
-/// cells: "Cells without people count too, and a cell under two licences counts twice."
+/// "For an area, c becomes the sum of width × people covered." Beside it document 02 has the cells: "Cells without
+/// people count too, and a cell under two licences counts twice", whatever their widths. c is at most
+/// 64 × 50 × 40,000,000.
 pub fn covered(lines: &[Licence], area: &Area) -> Covered {
     let mut covered = Covered::default();
     for line in lines {
         for cell in area.cells.iter().flatten().filter(|cell| line.ground.covers(area.number, cell)) {
-            covered.people += u64::from(cell.people);
+            covered.mhz_pops += u64::from(line.width) * u64::from(cell.people);
             covered.cells += 1;
         }
     }
@@ -51,18 +52,19 @@ pub struct Blocks {
     pub size: u64,
 }
 
-/// "Whole blocks = c / (2 × pop), with remainder r. If 50 × r ≥ 99 × pop, one more whole block and nothing partial.
-/// Otherwise, if r > 0, the area is partial, with value v = 50 × weight × r and size M = 100 × weight × pop."
+/// "Whole blocks are c / (100 × pop) with remainder r. The 99% rule reads r ≥ 99 × pop, and v is weight × r." The rest
+/// is document 01's: with 99% "one more whole block and nothing partial. Otherwise, if r > 0, the area is partial", with
+/// "size M = 100 × weight × pop".
 pub fn blocks(lines: &[Licence], area: &Area) -> Blocks {
-    let people = covered(lines, area).people;
+    let c = covered(lines, area).mhz_pops;
     let population = area.population();
     let weight = u64::from(area.weight);
-    let whole = people / (2 * population);
-    let rest = people % (2 * population);
-    if 50 * rest >= 99 * population {
+    let whole = c / (100 * population);
+    let rest = c % (100 * population);
+    if rest >= 99 * population {
         Blocks { whole: whole + 1, value: 0, size: 0 }
     } else if rest > 0 {
-        Blocks { whole, value: 50 * weight * rest, size: 100 * weight * population }
+        Blocks { whole, value: weight * rest, size: 100 * weight * population }
     } else {
         Blocks { whole, value: 0, size: 0 }
     }
@@ -71,7 +73,7 @@ pub fn blocks(lines: &[Licence], area: &Area) -> Blocks {
 #[cfg(test)]
 mod tests {
     use super::*;
-    use crate::reference::tests::{area_held, columns, licences, row, small_map};
+    use crate::reference::tests::{Slice, area_held, columns, licences, of_widths, row, small_map};
 
     /// Area 7 with people 5, 0, 4, 3 and 8 and a gap in the middle, so with six places and five cells.
     fn gapped() -> Area {
@@ -103,16 +105,42 @@ mod tests {
             (&[Ground::Area(8), columns(8, 0, 6)], (0, 0)),
         ];
         for (grounds, (people, cells)) in held {
-            assert_eq!(covered(&licences(grounds), &gapped()), Covered { people, cells }, "{grounds:?}");
+            let by_hand = Covered { mhz_pops: 50 * people, cells };
+            assert_eq!(covered(&licences(grounds), &gapped()), by_hand, "{grounds:?}");
+        }
+    }
+
+    #[test]
+    fn widths_by_hand_count() {
+        let all = Ground::Area(7);
+        let held: [(&[Slice], (u64, u64)); 10] = [
+            // One MHz over five people, over nobody, and over the area.
+            (&[(columns(7, 0, 1), 1)], (5, 1)),
+            (&[(columns(7, 1, 2), 1)], (0, 1)),
+            (&[(all, 1)], (20, 5)),
+            // A cell counts once, as narrow as its licence may be, and once more for a second one.
+            (&[(columns(7, 0, 2), 49)], (245, 2)),
+            (&[(columns(7, 0, 2), 49), (columns(7, 0, 1), 2)], (255, 3)),
+            // Boxes of 7 and 11 MHz that share the cells of 0 and of 4 people.
+            (&[(columns(7, 0, 3), 7), (columns(7, 1, 5), 11)], (63 + 77, 6)),
+            // The area in slices that add to 50, and beside a licence for another area.
+            (&[(all, 20), (all, 29), (all, 1)], (1_000, 15)),
+            (&[(all, 20), (Ground::Area(8), 30)], (400, 5)),
+            // No width, which no grant leaves: cells alone.
+            (&[(all, 0)], (0, 5)),
+            (&[(all, 0), (columns(7, 5, 6), 3), (columns(7, 5, 6), 0)], (24, 7)),
+        ];
+        for (each, (mhz_pops, cells)) in held {
+            assert_eq!(covered(&of_widths(each), &gapped()), Covered { mhz_pops, cells }, "{each:?}");
         }
     }
 
     #[test]
     fn a_number_that_the_map_lacks_and_a_map_that_is_refused() {
         let lines = licences(&[Ground::Area(7), Ground::Area(8), columns(7, 0, 5)]);
-        assert_eq!(coverage(&small_map(), &lines, 7), Ok(Covered { people: 40, cells: 10 }));
+        assert_eq!(coverage(&small_map(), &lines, 7), Ok(Covered { mhz_pops: 2_000, cells: 10 }));
         for lacking in [0, 6, 8, u16::MAX] {
-            assert_eq!(coverage(&small_map(), &lines, lacking), Ok(Covered { people: 0, cells: 0 }), "{lacking}");
+            assert_eq!(coverage(&small_map(), &lines, lacking), Ok(Covered { mhz_pops: 0, cells: 0 }), "{lacking}");
         }
         for number in [7, 8] {
             assert_eq!(coverage(&small_map()[..69], &lines, number), Err(1));
@@ -126,5 +154,44 @@ mod tests {
             let Blocks { whole, value, size } = blocks(&licences(&grounds), &area);
             assert_eq!((whole, value, size), by_hand, "c {c}");
         }
+    }
+
+    /// An area with pop 100 and weight 3, of one person and 99, held so that one MHz-pop decides.
+    #[test]
+    fn one_mhz_pop_decides() {
+        let area = row(1, 3, &[1, 99]);
+        let (all, one, others) = (Ground::Area(1), columns(1, 0, 1), columns(1, 1, 2));
+        let held: [(&[Slice], u64, [u64; 3]); 8] = [
+            (&[(one, 1)], 1, [0, 3, 30_000]),
+            // 99 in the hundred, and one MHz-pop below and above.
+            (&[(all, 50), (all, 48), (others, 1)], 9_899, [0, 29_697, 30_000]),
+            (&[(all, 50), (all, 49)], 9_900, [1, 0, 0]),
+            (&[(all, 50), (all, 49), (one, 1)], 9_901, [1, 0, 0]),
+            // A whole block, and one MHz-pop below and above.
+            (&[(all, 50), (all, 49), (others, 1)], 9_999, [1, 0, 0]),
+            (&[(all, 50), (all, 50)], 10_000, [1, 0, 0]),
+            (&[(all, 50), (all, 50), (one, 1)], 10_001, [1, 3, 30_000]),
+            // The same for the second block.
+            (&[(all, 50), (all, 50), (all, 50), (all, 48), (others, 1)], 19_899, [1, 29_697, 30_000]),
+        ];
+        for (each, c, by_hand) in held {
+            let lines = of_widths(each);
+            assert_eq!(covered(&lines, &area).mhz_pops, c, "{each:?}");
+            let Blocks { whole, value, size } = blocks(&lines, &area);
+            assert_eq!([whole, value, size], by_hand, "{each:?}");
+        }
+    }
+
+    /// 64 licences over 40 cells of 1,000,000 people, with the greatest weight.
+    #[test]
+    fn the_greatest_amounts() {
+        let area = row(416, 65_535, &[1_000_000; 40]);
+        let all = of_widths(&[(Ground::Area(416), 50); 64]);
+        assert_eq!(covered(&all, &area), Covered { mhz_pops: 128_000_000_000, cells: 2_560 });
+        assert_eq!(blocks(&all, &area), Blocks { whole: 32, value: 0, size: 0 });
+        let mut part = all;
+        part[63].width = 48;
+        let (value, size) = (65_535 * 98 * 40_000_000, 65_535 * 100 * 40_000_000);
+        assert_eq!(blocks(&part, &area), Blocks { whole: 31, value, size });
     }
 }

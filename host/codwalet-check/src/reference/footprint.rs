@@ -42,7 +42,7 @@ enum Rings {
 }
 
 /// The area that gets a share, and the share. "12", and "13: footprint of a proposal that isn't kind 3".
-fn shared_area<'a>(areas: &'a [Area], lines: &[Licence], draw: u32) -> Result<(&'a Area, u64), u32> {
+pub fn shared_area<'a>(areas: &'a [Area], lines: &[Licence], draw: u32) -> Result<(&'a Area, u64), u32> {
     let proposal = propose(areas, lines, draw)?;
     let share_of = |given: &Given| match given.gets {
         Gets::Share(share) => Some(share),
@@ -52,8 +52,8 @@ fn shared_area<'a>(areas: &'a [Area], lines: &[Licence], draw: u32) -> Result<(&
     shared.ok_or(13)
 }
 
-/// "F is the set of cells of the partial area that a licence in force covers."
-fn covered_places(lines: &[Licence], area: &Area) -> Vec<bool> {
+/// "F is the set of cells of the partial area that a licence in force covers", whatever its width.
+pub fn covered_places(lines: &[Licence], area: &Area) -> Vec<bool> {
     let is_covered = |cell: &Cell| lines.iter().any(|line| line.ground.covers(area.number, cell));
     area.cells.iter().map(|cell| cell.as_ref().is_some_and(is_covered)).collect()
 }
@@ -257,7 +257,19 @@ pub fn footprint(
     let refused = |number| Refused { number, needed: 0 };
     let areas = read_map(map).map_err(|fault| refused(fault.number))?;
     let (area, share) = shared_area(&areas, lines, draw).map_err(refused)?;
-    let rings = rings(area, covered_places(lines, area), share);
+    footprint_from(area, covered_places(lines, area), share, mask, table_length)
+}
+
+/// The same for an area that gets a share, from the set that the footprint starts from. "7, 8."
+pub fn footprint_from(
+    area: &Area,
+    start: Vec<bool>,
+    share: u64,
+    mask: &mut [u8],
+    table_length: usize,
+) -> Result<Made, Refused> {
+    let refused = |number| Refused { number, needed: 0 };
+    let rings = rings(area, start, share);
     let mask = mask.get_mut(..area.rows * area.columns).ok_or(refused(7))?;
     let entries = entries(area, &rings, share);
     if table_length < entries {
@@ -274,7 +286,8 @@ pub fn footprint(
 #[cfg(test)]
 mod tests {
     use super::*;
-    use crate::reference::tests::{columns, licences, small_map};
+    use crate::reference::register::Ground;
+    use crate::reference::tests::{Slice, columns, licences, of_widths, small_map};
 
     #[test]
     fn refusals_of_a_footprint() {
@@ -290,6 +303,36 @@ mod tests {
         assert_eq!(run(&map, &one, 4, 0), (refused(7, 0), vec![9; 4]));
         assert_eq!(run(&map, &one, 6, 3), (refused(8, 4), vec![0, 0, 0, 0, 0, 9]));
         assert_eq!(run(&map, &one, 6, 4), (Ok(Made { number: 7, used: 4 }), vec![0, 0, 1, 0, 0, 9]));
+    }
+
+    /// People 5, 0, 4, 3 and 8: the set that a footprint starts from, the footprint, and the entries that it needs.
+    #[test]
+    fn widths_by_hand_count() {
+        let middle = columns(7, 2, 4);
+        let held: [(&[Slice], u64, &str, &str, usize); 7] = [
+            // 7 MHz over 7 people are worth less than one of them: 4 are left out, and of the slack of 6.51 counts 6.
+            (&[(middle, 7)], 49, "..##.", "...#.", 7),
+            // One MHz over one cell: of its 3 people none can go while any of it is due, as 3 are more than 2.97.
+            (&[(columns(7, 3, 4), 1)], 3, "...#.", "...#.", 3),
+            // Twice 50 MHz in slices: just the people under them.
+            (&[(middle, 49), (middle, 1), (middle, 30), (middle, 20)], 700, "..##.", "..##.", 0),
+            // One MHz more over the first cell brings that cell in: of 12 people 4.95 may go, so the 4.
+            (&[(middle, 50), (middle, 50), (columns(7, 0, 1), 1)], 705, "#.##.", "#..#.", 5),
+            // The same with no width at all, which adds nothing to the share: 5 may go.
+            (&[(middle, 50), (middle, 50), (columns(7, 0, 1), 0)], 700, "#.##.", "..##.", 6),
+            // 150 MHz in slices grow as in holding 12.
+            (&[(middle, 50), (middle, 50), (middle, 49), (middle, 1)], 1_050, "..##.", ".####", 5),
+            // A licence of no width over the whole area beside: of 20 people 13 may go, and nobody's cell stays.
+            (&[(middle, 50), (middle, 50), (Ground::Area(7), 0)], 700, "#####", ".###.", 14),
+        ];
+        let areas = read_map(&small_map()).expect("a good map");
+        let shown = |set: &[bool]| set.iter().map(|&inside| if inside { '#' } else { '.' }).collect::<String>();
+        for (each, share, start, footprint, entries) in held {
+            let outline = outline(&areas, &of_widths(each), 0).expect("of kind 3");
+            let sets = (shown(&outline.start), shown(&outline.footprint));
+            assert_eq!((outline.share, sets), (share, (start.to_string(), footprint.to_string())), "{each:?}");
+            assert_eq!(outline.entries, entries, "{each:?}");
+        }
     }
 
     /// Both ways to decide what is left out agree where both can be used.

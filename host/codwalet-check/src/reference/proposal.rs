@@ -28,7 +28,7 @@ pub struct Given {
 
 /// "The answer: kind (1 exact, 2 rounded up, 3 one part), T, white space, tied count, and for each map area its whole
 /// blocks and what it gets." "The proposal shows the sum of cells for each map area." Nothing else here reads them:
-/// "Ranking and shares read people only."
+/// "Ranking and shares read people only", which since widths are MHz-pops.
 #[derive(Clone, Debug, PartialEq, Eq)]
 pub struct Proposal {
     pub kind: u32,
@@ -104,12 +104,11 @@ impl Choice {
 }
 
 /// "S is the list of partial areas, ascending."
-fn partial_areas(areas: &[Area], lines: &[Licence]) -> Vec<Partial> {
-    let partial = |area: &Area| {
-        let Blocks { value, size, .. } = blocks(lines, area);
+fn partial_areas(areas: &[Area], held: &[Blocks]) -> Vec<Partial> {
+    let partial = |(area, &Blocks { value, size, .. }): (&Area, &Blocks)| {
         (value > 0).then_some(Partial { number: area.number, weight: u64::from(area.weight), value, size })
     };
-    areas.iter().filter_map(partial).collect()
+    areas.iter().zip(held).filter_map(partial).collect()
 }
 
 /// "T is the sum of v over S."
@@ -170,18 +169,25 @@ fn winning_choice(partials: &[Partial], draw: u32) -> (Choice, u64) {
     (tied[draw as usize % tied.len()], tied.len() as u64)
 }
 
-/// The proposal. "12: more than 20 partial areas." The error is the refusal's number.
+/// The proposal. The error is the refusal's number.
 pub fn propose(areas: &[Area], lines: &[Licence], draw: u32) -> Result<Proposal, u32> {
-    let partials = partial_areas(areas, lines);
+    let held: Vec<Blocks> = areas.iter().map(|area| blocks(lines, area)).collect();
+    propose_blocks(areas, &held, lines, draw)
+}
+
+/// The proposal for areas of which these blocks are held; of the licences it reads the covered cells alone. "12: more
+/// than 20 partial areas." The error is the refusal's number.
+pub fn propose_blocks(areas: &[Area], held: &[Blocks], lines: &[Licence], draw: u32) -> Result<Proposal, u32> {
+    let partials = partial_areas(areas, held);
     if partials.len() > PARTIAL_AREAS {
         return Err(12);
     }
     let (choice, tied) = winning_choice(&partials, draw);
-    let given = |area: &Area| {
+    let given = |(area, held): (&Area, &Blocks)| {
         let place = partials.iter().position(|partial| partial.number == area.number);
         Given {
             number: area.number,
-            blocks: blocks(lines, area).whole,
+            blocks: held.whole,
             cells: covered(lines, area).cells,
             gets: place.map_or(Gets::Nothing, |place| choice.gets(place, &partials)),
         }
@@ -191,6 +197,6 @@ pub fn propose(areas: &[Area], lines: &[Licence], draw: u32) -> Result<Proposal,
         target: target(&partials),
         white_space: choice.white_space(&partials),
         tied,
-        areas: areas.iter().map(given).collect(),
+        areas: areas.iter().zip(held).map(given).collect(),
     })
 }

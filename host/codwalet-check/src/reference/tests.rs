@@ -16,11 +16,19 @@ pub(super) fn columns(number: u16, west: i32, east: i32) -> Ground {
 
 /// A licence for each ground, with call signs from 1 on.
 pub(super) fn licences(grounds: &[Ground]) -> Vec<Licence> {
-    let licence = |(place, &ground)| Licence { call_sign: place as u32 + 1, ground };
-    grounds.iter().enumerate().map(licence).collect()
+    (1..).zip(grounds).map(|(call_sign, &ground)| Licence::without_width(call_sign, ground)).collect()
 }
 
-/// An area with weight, population and c as a holding says, with the grounds that cover c people of it.
+/// A ground, and so many MHz over it.
+pub(super) type Slice = (Ground, u32);
+
+/// A licence for each ground and width, with call signs from 1 on.
+pub(super) fn of_widths(each: &[Slice]) -> Vec<Licence> {
+    (1..).zip(each).map(|(call_sign, &(ground, width))| Licence { call_sign, ground, width }).collect()
+}
+
+/// An area with weight, population and document 01's c, with the grounds that cover c people of it: at 50 MHz each,
+/// document 02's c is 50 times that.
 pub(super) fn area_held(number: u16, (weight, population, c): (u32, u32, u32)) -> (Area, Vec<Ground>) {
     let mut grounds = vec![Ground::Area(number); (c / population) as usize];
     grounds.push(columns(number, 0, 1));
@@ -109,25 +117,93 @@ fn hold(held: &Held) -> (Vec<Area>, Vec<Licence>) {
     }
 }
 
+/// Checks the answers of a holding, each of its licences being held as so many with the same ground.
+fn assert_by_hand(holding: &Holding, areas: &[Area], lines: &[Licence], each: u64) {
+    let name = format!("holding {}, {each} for each licence", holding.name);
+    let given = |(place, &(cells, gets)): (usize, &(u64, Gets))| Given {
+        number: place as u16 + 1,
+        blocks: holding.blocks,
+        cells: each * cells,
+        gets,
+    };
+    let by_hand = Proposal {
+        kind: holding.kind,
+        target: holding.target,
+        white_space: holding.white_space,
+        tied: holding.tied,
+        areas: holding.areas.iter().enumerate().map(given).collect(),
+    };
+    assert_eq!(propose(areas, lines, holding.draw), Ok(by_hand), "{name}");
+    if let Some((mask, entries)) = holding.footprint {
+        let outline = outline(areas, lines, holding.draw).expect("of kind 3");
+        assert_eq!(outline.footprint, mask.map(|byte| byte == 1), "{name}");
+        assert_eq!(outline.entries, entries, "{name}");
+    }
+}
+
+/// "The twelve cases keep their results, with each c multiplied by 50."
 #[test]
 fn the_twelve_holdings() {
     for holding in &HOLDINGS {
         let (areas, lines) = hold(&holding.held);
-        let given = |(place, &(cells, gets))| Given { number: place as u16 + 1, blocks: holding.blocks, cells, gets };
-        let by_hand = Proposal {
-            kind: holding.kind,
-            target: holding.target,
-            white_space: holding.white_space,
-            tied: holding.tied,
-            areas: holding.areas.iter().enumerate().map(given).collect(),
+        let c: Vec<u64> = areas.iter().map(|area| covered(&lines, area).mhz_pops).collect();
+        let by_hand: Vec<u64> = match holding.held {
+            Held::Areas(areas) => areas.iter().map(|&(_, _, c)| 50 * u64::from(c)).collect(),
+            Held::Row(licences) => vec![50 * 7 * licences as u64],
         };
-        assert_eq!(propose(&areas, &lines, holding.draw), Ok(by_hand), "holding {}", holding.name);
-        if let Some((mask, entries)) = holding.footprint {
-            let outline = outline(&areas, &lines, holding.draw).expect("of kind 3");
-            assert_eq!(outline.footprint, mask.map(|byte| byte == 1), "holding {}", holding.name);
-            assert_eq!(outline.entries, entries, "holding {}", holding.name);
+        assert_eq!(c, by_hand, "holding {}", holding.name);
+        assert_by_hand(holding, &areas, &lines, 1);
+    }
+}
+
+/// Slices in the place of each licence of 50 MHz: the same proposal but for its cells, and the same footprint.
+#[test]
+fn the_twelve_holdings_in_slices() {
+    for slices in [&[5; 10][..], &[49, 1], &[1, 2, 47], &[1; 50]] {
+        assert_eq!(slices.iter().sum::<u32>(), 50);
+        for holding in &HOLDINGS {
+            let (areas, lines) = hold(&holding.held);
+            let sliced = |line: &Licence| slices.iter().map(|&width| (line.ground, width)).collect::<Vec<_>>();
+            let lines = of_widths(&lines.iter().flat_map(sliced).collect::<Vec<_>>());
+            assert_by_hand(holding, &areas, &lines, slices.len() as u64);
         }
     }
+}
+
+/// Pop 100 at 90 in the hundred of a block, and one MHz-pop below and above: of one person and 99.
+#[test]
+fn one_mhz_pop_makes_a_share() {
+    let areas = [row(1, 1, &[1, 99])];
+    let (all, one, others) = (Ground::Area(1), columns(1, 0, 1), columns(1, 1, 2));
+    let held: [(&[Slice], u64, Gets); 3] = [
+        (&[(all, 50), (all, 39), (others, 1)], 8_999, Gets::Share(8_999)),
+        (&[(all, 50), (all, 40)], 9_000, Gets::RoundedUp),
+        (&[(all, 50), (all, 40), (one, 1)], 9_001, Gets::RoundedUp),
+    ];
+    for (each, c, gets) in held {
+        let proposal = propose(&areas, &of_widths(each), 0).expect("one partial area");
+        let kind = if gets == Gets::RoundedUp { 2 } else { 3 };
+        assert_eq!((proposal.kind, proposal.target, proposal.white_space), (kind, c, 10_000 - c));
+        assert_eq!((proposal.areas[0].blocks, proposal.areas[0].gets), (0, gets));
+    }
+}
+
+/// Areas with pop 100 and c 5,000, and one with 1 MHz-pop more or less: what was exact has a share of 1, or all but 1.
+#[test]
+fn one_mhz_pop_beside_an_exact_holding() {
+    let areas = [row(1, 1, &[1, 99]), row(2, 1, &[100])];
+    let (all, one, others, two) = (Ground::Area(1), columns(1, 0, 1), columns(1, 1, 2), Ground::Area(2));
+    let proposed = |each: &[Slice]| {
+        let proposal = propose(&areas, &of_widths(each), 0).expect("two partial areas");
+        let gets: Vec<Gets> = proposal.areas.iter().map(|given| given.gets).collect();
+        (proposal.kind, proposal.target, proposal.white_space, proposal.tied, gets)
+    };
+    use Gets::{Nothing, RoundedUp, Share, Whole};
+    assert_eq!(proposed(&[(all, 50), (two, 50)]), (1, 10_000, 0, 0, vec![Whole, Nothing]));
+    let below = [(all, 49), (others, 1), (two, 50)];
+    assert_eq!(proposed(&below), (2, 9_999, 1, 2, vec![RoundedUp, Nothing]));
+    let above = [(all, 50), (one, 1), (two, 50)];
+    assert_eq!(proposed(&above), (3, 10_001, 9_999, 2, vec![Share(1), Whole]));
 }
 
 /// Three areas with pop 100 and c 150 each, of two, three and five cells: cells without people decide nothing.

@@ -16,7 +16,7 @@ pub fn json(answer: &Answer) -> String {
         }
         Outcome::Granted(count) | Outcome::Cancelled(count) => object.number("in_force", *count as u64),
         Outcome::Coverage { coverage, in_map } => {
-            object.number("people", coverage.people.0);
+            object.number("mhz_pops", coverage.mhz_pops.0);
             object.number("cells", coverage.cells);
             object.value("in_map", in_map.to_string());
         }
@@ -69,6 +69,7 @@ fn licence_fields(object: &mut Object, licence: &Licence) {
         // Plans grant for areas and boxes.
         _ => {}
     }
+    object.number("width", licence.width());
 }
 
 /// Whole blocks, v and M, the last two 0 where the area isn't partial.

@@ -5,7 +5,7 @@ use crate::picture::{Drawing, terminal};
 use crate::plan::run::{Answer, Outcome};
 use crate::plan::{Call, Plan};
 use crate::shown::shown;
-use codwalet::{Blocks, Coverage, Given, Kind, Part, Proposal};
+use codwalet::{Blocks, Coverage, Given, Kind, Part, Proposal, Weighted};
 
 /// Blanks before the lines below an answer: the width of the first column.
 const INDENT: &str = "      ";
@@ -65,9 +65,9 @@ fn lacking(in_map: bool) -> &'static str {
     if in_map { "" } else { " (the map lacks the area)" }
 }
 
-/// People and cells, apart: under two licences both count twice.
+/// MHz-pops and cells, apart: the first go by the widths of licences, the others don't.
 fn coverage_words(coverage: &Coverage) -> String {
-    format!("{}, {}", coverage.people, counted(coverage.cells, "cell", "cells"))
+    format!("{}, {}", coverage.mhz_pops, counted(coverage.cells, "cell", "cells"))
 }
 
 fn blocks_words(blocks: &Blocks) -> String {
@@ -89,12 +89,13 @@ fn kind_words(proposal: &Proposal) -> String {
 }
 
 fn proposal_lines(proposal: &Proposal) -> Vec<String> {
-    let (target, white_space) = (grouped(proposal.target.0), grouped(proposal.white_space.0));
-    let width = target.len().max(white_space.len());
+    let (target, white_space) = (proposal.target, proposal.white_space);
+    let width = grouped(target.max(white_space).0).len();
+    let unit = |amount: Weighted| word_for(amount.0, "weighted MHz-pop", "weighted MHz-pops");
     let tied = word_for(proposal.tied, "area", "areas");
     let mut lines = vec![
-        format!("T            {target:>width$} weighted MHz-pops"),
-        format!("white space  {white_space:>width$} weighted MHz-pops"),
+        format!("T            {:>width$} {}", grouped(target.0), unit(target)),
+        format!("white space  {:>width$} {}", grouped(white_space.0), unit(white_space)),
         format!("tied         {:>width$} {tied}", proposal.tied),
         String::new(),
         "area  whole blocks      cells  gets".to_string(),

@@ -14,7 +14,7 @@ codwalet: which areas a carrier holds in whole 100 MHz blocks, and which in part
 A plan grants licences and asks for answers:
   map region.csv
   grant 101 area 143
-  grant 102 box 39.6N 39.7N 100.2W 100.1W
+  grant 102 box 39.6N 39.7N 100.2W 100.1W width 20
   blocks 143
   propose 0
   footprint 0 svg picture.svg
@@ -37,15 +37,15 @@ Runs a plan, which is read and checked whole before. - is standard input.
 A plan has a call on each line; # at the start of a word starts a comment, and
 \"double quotes\" hold a word with blanks, in which \\\" is a quote.
   map FILE                          map bytes or CSV, from the plan's folder
-  grant CALLSIGN area NUMBER
-  grant CALLSIGN box SOUTH NORTH WEST EAST
+  grant CALLSIGN area NUMBER [width MHZ]
+  grant CALLSIGN box SOUTH NORTH WEST EAST [width MHZ]
   cancel CALLSIGN
-  coverage NUMBER                   people and cells that licences cover
+  coverage NUMBER                   MHz-pops and cells that licences cover
   blocks NUMBER
   propose DRAW                      the draw decides among tied areas
   footprint DRAW [svg FILE]         FILE is from the current directory
 A coordinate with a dot or a letter is degrees, as 39.5N, 7S or -100.25; a whole
-number is hundredths of an arc second.
+number is hundredths of an arc second. A width is 1 to 50 MHz; without it, 50.
 
 Exit status: 0 done, 1 something could not be written, 2 a mistake.
 Example: codwalet run examples/two-areas.plan --json

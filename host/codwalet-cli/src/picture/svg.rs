@@ -90,7 +90,7 @@ fn heading(drawing: &Drawing) -> String {
 /// What the share is, and what the footprint carries.
 fn sentences(drawing: &Drawing) -> [String; 2] {
     let footprint = drawing.count(|place| drawing.footprint[place]);
-    let share = format!("The share is {} weighted MHz-pops.", grouped(drawing.share.0));
+    let share = format!("The share is {}.", drawing.share);
     let carries = format!(
         "The footprint carries {}: {} in {} of {}.",
         grouped(drawing.carries().0),

@@ -47,7 +47,7 @@ impl<'p> Reader<'p> {
             return Err((call.name().word().to_string(), Wrong::NoMap));
         }
         match &call {
-            Call::Grant { notes, .. } if self.strict => self.strictly(&words[3..], notes)?,
+            Call::Grant { notes, .. } if self.strict => self.strictly(ground_of(&words), notes)?,
             _ => {}
         }
         Ok(Some(Step { line, words: joined(&words), call }))
@@ -122,6 +122,7 @@ impl<'p> Reader<'p> {
             }
             _ => return Err(words.wrong(Wrong::NotDue("area or box"))),
         };
+        let licence = read_width(words)?.map_or(licence, |mhz| licence.with_width(mhz));
         let covers = self.map.as_ref().and_then(|map| map.note_on(&licence, written.like_degrees));
         let mixed = written.whole_among_degrees.map(Note::WholeAmongDegrees);
         Ok(Call::Grant { licence, notes: covers.into_iter().chain(mixed).collect() })
@@ -171,6 +172,28 @@ impl<'p> Reader<'p> {
 /// Words with a blank between them, as a plan has them.
 fn joined(words: &[Word]) -> String {
     words.iter().map(Word::written).collect::<Vec<_>>().join(" ")
+}
+
+/// The word before the width of a licence.
+const WIDTH: &[u8] = b"width";
+
+/// The width in MHz behind the ground of a licence, if there is one. Any number is taken; the engine refuses those that are none
+/// of a licence.
+fn read_width(words: &mut Words) -> Result<Option<u32>, Fault> {
+    if words.rest().is_empty() {
+        return Ok(None);
+    }
+    if words.next("width")?.bytes() != WIDTH {
+        return Err(words.wrong(Wrong::NotDue("width or nothing")));
+    }
+    words.number("MHZ", u32::MAX).map(Some)
+}
+
+/// The words of a grant that say where, behind `area` or `box` and before a width.
+fn ground_of(grant: &[Word]) -> &[Word] {
+    let ground = &grant[3..];
+    let length = ground.iter().position(|word| word.bytes() == WIDTH).unwrap_or(ground.len());
+    &ground[..length]
 }
 
 /// What the way in which a box is written tells of its edges.

@@ -52,8 +52,12 @@ impl Case {
         format!("212,{},{row},{column},{},{latitude},{longitude}\n", self.weight, (self.people)(place))
     }
 
-    pub fn call_signs(&self) -> impl Iterator<Item = String> {
-        self.licences.iter().map(|licence| licence.call_sign().to_string())
+    /// What legends list: the call sign of each licence, and its width if it is narrower than 50 MHz.
+    pub fn listed(&self) -> impl Iterator<Item = String> {
+        self.licences.iter().map(|licence| match (licence.call_sign(), licence.width()) {
+            (call_sign, 50) => call_sign.to_string(),
+            (call_sign, mhz) => format!("{call_sign} ({mhz} MHz)"),
+        })
     }
 }
 
@@ -106,11 +110,13 @@ pub fn crowded() -> Vec<Case> {
     ]
 }
 
-/// Pictures with few boxes, one with licences for the whole area too, and one with the largest amounts.
+/// Pictures with few boxes, two with licences for the whole area too, one of these with narrow licences, and one with the largest
+/// amounts.
 pub fn plain() -> Vec<Case> {
     let few = vec![over(1, 2..6, 2..6), over(2, 5..9, 5..9), over(3, 0..4, 8..12)];
     let whole_area = (1..=20).map(|call_sign| Licence::area(call_sign, 212));
-    let with_area = few.iter().copied().chain(whole_area).collect();
+    let with_area: Vec<Licence> = few.iter().copied().chain(whole_area).collect();
+    let narrow = with_area.iter().zip(1..).map(|(licence, mhz)| licence.with_width(mhz)).collect();
     let corners = [(1, 0, 127), (2, 127, 0), (3, 127, 127)];
     let corners = corners.map(|(number, row, column)| over(number, from(row, 1), from(column, 1)));
     let case = |name, rows, columns, licences| Case {
@@ -125,6 +131,7 @@ pub fn plain() -> Vec<Case> {
     vec![
         case("few", 12, 12, few),
         case("with the whole area", 12, 12, with_area),
+        case("narrow", 12, 12, narrow),
         case("in the corners", 128, 128, corners.to_vec()),
         case("two cells", 1, 2, vec![over(1, 0..1, 1..2)]),
         case("wide and low, few", 4, 128, vec![over(1, 0..4, 10..40), over(2, 1..3, 60..90)]),

@@ -1,7 +1,8 @@
 //! Registers: grants, cancellations, and registers that are kept as bytes.
 
 use crate::holdings::{MIDDLE, holding, map_of_five};
-use codwalet::{Coverage, Flaw, GeoBox, Ground, Licence, People, Refusal, Register, limits};
+use codwalet::{Coverage, Flaw, GeoBox, Ground, Licence, MhzPops, Refusal, Register, limits};
+use std::collections::HashSet;
 
 #[test]
 fn registers_are_values() {
@@ -39,6 +40,39 @@ fn equal_registers_have_the_same_licences_in_force_in_any_place() {
     assert_ne!(granted([1, 2]), granted([1, 3]));
 }
 
+/// The licence as a register hands it back.
+fn read_back(licence: Licence) -> Option<Licence> {
+    Register::empty().grant(licence).expect("the licence is granted").get(licence.call_sign())
+}
+
+#[test]
+fn widths_are_read_back() {
+    for licence in [Licence::area(1, 7), Licence::within(1, MIDDLE)] {
+        assert_eq!((licence.width(), read_back(licence)), (50, Some(licence)));
+        for mhz in [1, 20, 49, 50] {
+            let narrow = licence.with_width(mhz);
+            assert_eq!((narrow.width(), read_back(narrow)), (mhz, Some(narrow)));
+            assert_eq!(read_back(narrow).map(|licence| licence.width()), Some(mhz));
+        }
+        // The width that was named last counts.
+        assert_eq!(licence.with_width(51).with_width(5), licence.with_width(5));
+    }
+}
+
+#[test]
+fn licences_and_registers_are_equal_by_the_width_that_counts() {
+    let licence = Licence::area(1, 7);
+    assert_eq!(licence, licence.with_width(50));
+    assert_ne!(licence, licence.with_width(49));
+    assert!(licence.with_width(9) < licence.with_width(10) && licence.with_width(49) < licence);
+    assert_eq!(HashSet::from([licence, licence.with_width(50), licence.with_width(49)]).len(), 2);
+
+    let granted = |licence| Register::empty().grant(licence).expect("the licence is granted");
+    assert_eq!(granted(licence), granted(licence.with_width(50)));
+    assert_eq!(granted(licence).to_bytes(), granted(licence.with_width(50)).to_bytes());
+    assert_ne!(granted(licence), granted(licence.with_width(49)));
+}
+
 fn boxed(south: i32, north: i32, west: i32, east: i32) -> Licence {
     Licence::within(1, GeoBox { south, north, west, east })
 }
@@ -69,6 +103,14 @@ fn ill_formed_licences_are_refused_with_what_is_wrong() {
             Flaw::Longitude(64_800_001),
             "longitude 64800001 is not within -64800000 to 64800000 hundredths of an arc second",
         ),
+        (Licence::area(1, 7).with_width(0), Flaw::Width(0), "width 0 is not within 1 to 50 MHz"),
+        (boxed(0, 1, 0, 1).with_width(51), Flaw::Width(51), "width 51 is not within 1 to 50 MHz"),
+        // In one byte it would be 50.
+        (Licence::area(1, 7).with_width(306), Flaw::Width(306), "width 306 is not within 1 to 50 MHz"),
+        (Licence::area(1, 7).with_width(u32::MAX), Flaw::Width(u32::MAX), "width 4294967295 is not within 1 to 50 MHz"),
+        // The call sign and the ground are named before the width.
+        (Licence::area(0, 7).with_width(51), Flaw::CallSignZero, "the call sign is 0"),
+        (Licence::area(1, 0).with_width(51), Flaw::AreaNumber(0), "area 0 is not within 1 to 416"),
     ];
     for (licence, flaw, words) in ill_formed {
         let refusal = Refusal::IllFormed { flaw: Some(flaw) };
@@ -87,6 +129,11 @@ fn a_licence_has_a_flaw_where_the_engine_refuses_it() {
     for (south, north) in latitudes.iter().flat_map(|south| latitudes.map(|north| (*south, north))) {
         licences.extend(longitudes.iter().flat_map(|west| longitudes.map(|east| boxed(south, north, *west, east))));
     }
+    for mhz in [0, 1, 49, 50, 51, 255, 256, 257, 306, u32::MAX] {
+        licences.extend(
+            [Licence::area(1, 7), Licence::area(1, 417), boxed(0, 1, 0, 1)].map(|licence| licence.with_width(mhz)),
+        );
+    }
     for licence in licences {
         assert_eq!(Register::empty().grant(licence).is_err(), licence.flaw().is_some(), "{licence:?}");
     }
@@ -94,7 +141,9 @@ fn a_licence_has_a_flaw_where_the_engine_refuses_it() {
 
 #[test]
 fn kept_registers_are_read_back() {
-    let register = holding(3).grant(Licence::area(9, 416)).expect("the licence is granted");
+    let narrow = Licence::area(10, 416).with_width(1);
+    let granted = holding(3).grant(Licence::area(9, 416)).and_then(|register| register.grant(narrow));
+    let register = granted.expect("both are granted");
     let bytes = register.to_bytes();
     assert_eq!((bytes.len(), Register::from_bytes(&bytes)), (1_536, register));
     assert_eq!(Register::from_bytes(&bytes).to_bytes(), bytes);
@@ -103,9 +152,23 @@ fn kept_registers_are_read_back() {
     assert_eq!(cut, Err("a saved register has 1,536 bytes, not 1,535".to_string()));
 }
 
-/// A place has call sign, area, kind, an unused byte and the four edges, in 24 bytes.
+/// A place has 24 bytes; in that at 7 it keeps what the width lacks to 50 MHz.
 #[test]
-fn registers_kept_in_version_1_are_read() {
+fn a_place_keeps_by_how_much_its_licence_is_narrower() {
+    for (mhz, narrower_by) in [(1, 49), (20, 30), (50, 0)] {
+        let register = Register::empty().grant(Licence::area(1, 7).with_width(mhz)).expect("the licence is granted");
+        assert_eq!(places(&register.to_bytes()).find(|place| place[0] == 1).map(|place| place[7]), Some(narrower_by));
+    }
+}
+
+/// The places of a register that is kept.
+fn places(bytes: &[u8; Register::BYTES]) -> impl Iterator<Item = &[u8]> {
+    bytes.chunks(24)
+}
+
+/// In these versions a place had call sign, area, kind, an unused byte, which was 0, and the four edges, in 24 bytes.
+#[test]
+fn registers_kept_in_versions_1_and_2_are_read_with_every_licence_at_50_mhz() {
     let mut kept = [0; Register::BYTES];
     kept[..8].copy_from_slice(&[0xE9, 3, 0, 0, 212, 0, 0, 0]);
     kept[24..][..8].copy_from_slice(&[0xEA, 3, 0, 0, 0, 0, 1, 0]);
@@ -116,7 +179,31 @@ fn registers_kept_in_version_1_are_read() {
     let mut licences: Vec<Licence> = register.licences().collect();
     licences.sort();
     assert_eq!(licences, [Licence::area(1001, 212), Licence::within(1002, MIDDLE)]);
+    assert!(licences.iter().all(|licence| licence.width() == 50));
+    assert_eq!(map_of_five().coverage(&register, 7).mhz_pops, MhzPops(50 * 7));
     assert_eq!(register.to_bytes(), kept);
+}
+
+/// No grant leaves 50 or more at byte 7 of a place. Such a licence is 0 MHz wide: it adds nothing to c, and its cells count.
+#[test]
+fn a_licence_without_any_width_covers_its_cells() {
+    let map = map_of_five();
+    for narrower_by in [50, 51, 255] {
+        let mut bytes = holding(2).to_bytes();
+        let place = bytes.chunks_mut(24).find(|place| place[0] == 2).expect("the licence is in force");
+        place[7] = narrower_by;
+        let register = Register::from_bytes(&bytes);
+        let licence = register.get(2).expect("the licence is in force");
+        assert_eq!((licence.width(), licence.ground(), licence.flaw()), (0, Ground::Box(MIDDLE), Some(Flaw::Width(0))));
+        let covered = map.coverage(&register, 7);
+        assert_eq!((covered.mhz_pops, covered.cells), (MhzPops(50 * 7), 4));
+        assert_eq!(map.propose(&register, 0).map(|proposal| proposal.areas[0].cells), Ok(4));
+        // It can be kept and cancelled, but not granted.
+        assert_eq!(register.to_bytes(), bytes);
+        let left = register.cancel(2).expect("the licence is cancelled");
+        assert_eq!(left, holding(1));
+        assert_eq!(left.grant(licence), Err(Refusal::IllFormed { flaw: Some(Flaw::Width(0)) }));
+    }
 }
 
 /// A place has 24 bytes, its call sign first and its kind of ground at byte 6.
@@ -133,7 +220,7 @@ fn any_bytes_are_a_register_and_only_what_is_in_force_counts() {
     let register = Register::from_bytes(&bytes);
     assert_eq!(register.get(2).map(|licence| licence.ground()), Some(Ground::None));
     let covered = map.coverage(&register, 7);
-    assert_eq!((register.len(), covered.people, covered.cells), (2, People(7), 2));
+    assert_eq!((register.len(), covered.mhz_pops, covered.cells), (2, MhzPops(350), 2));
     // Every place in force, with whatever ground.
     let crowded = Register::from_bytes(&[0xFF; Register::BYTES]);
     assert_eq!((crowded.len(), crowded.is_empty(), map.coverage(&crowded, 7)), (64, false, Coverage::default()));
@@ -148,5 +235,5 @@ fn a_box_past_the_limits_covers_what_lies_between_its_edges() {
     let register = Register::from_bytes(&bytes);
     let licence = register.get(1).expect("the licence is in force");
     assert_eq!((licence.flaw(), Register::empty().grant(licence).is_err()), (Some(Flaw::Latitude(i32::MIN)), true));
-    assert_eq!(map_of_five().coverage(&register, 7).people, People(7));
+    assert_eq!(map_of_five().coverage(&register, 7).mhz_pops, MhzPops(350));
 }

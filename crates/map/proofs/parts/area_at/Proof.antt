@@ -28,15 +28,17 @@ returns : tie.Need-returns
 unfolding readArea
 returns c =
     let c3 = c .before .before .before in
-    ap (mapRead (countedArea (now (c3 .before .before .args .edges))))
+    let a = c3 .before .before .args in
+    ap (mapRead (countedArea (now (a .edges)) (now (a .widths))))
     (bind-bad _ (sym (ap headMeans (c .before .f .given .1)) ∙ c3 .head-at .ensures .0))
 
 returns-2 : tie.Need-returns-2
 unfolding readArea
 returns-2 c =
     let c4 = c .before .before .before .before in
+    let a = c4 .before .before .args in
     c .area-from .ensures
-    ∙ ap (mapRead (countedArea (now (c4 .before .before .args .edges))))
+    ∙ ap (mapRead (countedArea (now (a .edges)) (now (a .widths))))
     (bind-good _ (sym (ap headMeans (c .before .before .h .given .1)) ∙ c4 .head-at .ensures .0))
 
 pub area-at-spec : {M : Type 1} → statement M

@@ -33,8 +33,10 @@ returns c =
     let c6 = c4 .before .before in
     let a = c6 .before .before .args in
     let g = c4 .h .given in
-    for-sought (now (a .s)) (g .0 .1 .0) (a .number) (now (a .edges)) (headOf (g .0 .0)) (c .before .if1 .taken) (c .area-from .ensures)
-    ∙ ap (mapRead (countedFor (a .number) (now (a .edges)))) (bind-good _ (sym (ap headMeans (g .1)) ∙ c6 .head-at .ensures .0))
+    for-sought (now (a .s)) (g .0 .1 .0) (a .number) (now (a .edges)) (now (a .widths)) (headOf (g .0 .0)) (c .before .if1 .taken)
+    (c .area-from .ensures)
+    ∙ ap (mapRead (countedFor (a .number) (now (a .edges)) (now (a .widths))))
+    (bind-good _ (sym (ap headMeans (g .1)) ∙ c6 .head-at .ensures .0))
 
 slice-aggregate-area-from : tie.Need-slice-aggregate-area-from
 slice-aggregate-area-from c = search needs
@@ -50,7 +52,7 @@ unfolding readArea
 returns-2 c =
     let c3 = c .before .before .before in
     let a = c3 .before .before .args in
-    ap (mapRead (countedFor (a .number) (now (a .edges))))
+    ap (mapRead (countedFor (a .number) (now (a .edges)) (now (a .widths))))
     (bind-bad _ (sym (ap headMeans (c .before .f .given .1)) ∙ c3 .head-at .ensures .0))
 
 returns-3 : tie.Need-returns-3
@@ -60,9 +62,10 @@ returns-3 c =
     let c7 = c5 .before .before in
     let a = c7 .before .before .args in
     let g = c5 .h .given in
-    for-other (now (a .s)) (g .0 .1 .0) (a .number) (now (a .edges)) (headOf (g .0 .0)) (c .before .before .if1 .left)
+    for-other (now (a .s)) (g .0 .1 .0) (a .number) (now (a .edges)) (now (a .widths)) (headOf (g .0 .0)) (c .before .before .if1 .left)
     (c .area-from2 .ensures)
-    ∙ ap (mapRead (countedFor (a .number) (now (a .edges)))) (bind-good _ (sym (ap headMeans (g .1)) ∙ c7 .head-at .ensures .0))
+    ∙ ap (mapRead (countedFor (a .number) (now (a .edges)) (now (a .widths))))
+    (bind-good _ (sym (ap headMeans (g .1)) ∙ c7 .head-at .ensures .0))
 
 pub area-for-spec : {M : Type 1} → statement M
 area-for-spec =

@@ -35,7 +35,7 @@ returns c =
     let a = c6 .before .before .args in
     let read = sym (ap tallyMeans (c4 .counts .given .1)) ∙ c6 .walk .ensures .0 in
     let low = sym (c .before .at-most .ensures) ∙ not-true (c .before .at-most .result) (c .if1 .taken) in
-    body-out (now (a .s)) (headOf (a .h)) (a .start) (now (a .edges)) read (not-first _ low)
+    body-out (now (a .s)) (headOf (a .h)) (a .start) (now (a .edges)) (now (a .widths)) read (not-first _ low)
 
 at-most-requires-2 : tie.Need-at-most-requires-2
 at-most-requires-2 c κs = search needs
@@ -47,13 +47,13 @@ returns-2 c =
     let a = c8 .before .before .args in
     let read = sym (ap tallyMeans (c6 .counts .given .1)) ∙ c8 .walk .ensures .0 in
     let high = sym (c .before .at-most2 .ensures) ∙ not-true (c .before .at-most2 .result) (c .if2 .taken) in
-    body-out (now (a .s)) (headOf (a .h)) (a .start) (now (a .edges)) read (not-second (peopled (c .before .before)) high)
+    body-out (now (a .s)) (headOf (a .h)) (a .start) (now (a .edges)) (now (a .widths)) read (not-second (peopled (c .before .before)) high)
 
 returns-3 : tie.Need-returns-3
 returns-3 c =
     let c3 = c .before .before .before in
     let a = c3 .before .before .args in
-    body-bad (now (a .s)) (headOf (a .h)) (a .start) (now (a .edges))
+    body-bad (now (a .s)) (headOf (a .h)) (a .start) (now (a .edges)) (now (a .widths))
     (sym (ap tallyMeans (c .before .f .given .1)) ∙ c3 .walk .ensures .0)
 
 returns-4 : tie.Need-returns-4
@@ -63,7 +63,7 @@ returns-4 c =
     let a = c8 .before .before .args in
     let read = sym (ap tallyMeans (c6 .counts .given .1)) ∙ c8 .walk .ensures .0 in
     let high = sym (c .before .at-most2 .ensures) ∙ not-false (c .before .at-most2 .result) (c .if2 .left) in
-    body-good (now (a .s)) (headOf (a .h)) (a .start) (now (a .edges)) read (both (peopled (c .before .before)) high)
+    body-good (now (a .s)) (headOf (a .h)) (a .start) (now (a .edges)) (now (a .widths)) read (both (peopled (c .before .before)) high)
 
 pub area-from-spec : {M : Type 1} → statement M
 area-from-spec =

@@ -11,10 +11,11 @@ use Rattle.map.proofs.parts.areas.Statement.{statement}
 use Rattle.map.proofs.parts.areas.Tie as tie
 
 abbrev Inv-loop : tie.InvT-loop
-Inv-loop map number edges count first at₀ before₀ found₀ k₀ at before found k = Search map number edges count first k at before found
+Inv-loop map number edges widths count first at₀ before₀ found₀ k₀ at before found k =
+    Search map number edges widths count first k at before found
 
 abbrev μ-loop : tie.MeasureT-loop
-μ-loop map number edges count first at₀ before₀ found₀ k₀ at before found k = count - k
+μ-loop map number edges widths count first at₀ before₀ found₀ k₀ at before found k = count - k
 
 loop-holds : tie.Need-loop-holds Inv-loop μ-loop
 loop-holds c = search-starts

@@ -1,17 +1,13 @@
 -- `map::parts::bare_row`: the sum of the cells, if each is within its limits. Assumes nothing.
-use Prim.Native.Nat.{ℕ, _+_, _*_, _≤_}
-use mathlib.Core.Path.{sym, _∙_, subst}
-use mathlib.Core.Bool.{true, false}
+use Prim.Native.Nat.{_+_, _*_}
+use mathlib.Core.Path.{sym, _∙_}
 use mathlib.Core.List.{[]}
 use native.Mathlib.Omega.{arith}
 use denote.Ref.{now}
-use lib.ListN.{length}
 use borrow.Author.Needs.{needs}
 use Rattle.lists.proofs.Tests.{by-test, not-both, takes, leaves}
 use Rattle.map.specs.Reading.{bad, good}
-use Rattle.map.specs.Counting.{counts, cellCounts, Small}
-use Rattle.map.specs.Cells.{cellsFrom}
-use Rattle.map.proofs.RowLaws.{cells-length}
+use Rattle.map.specs.Counting.{counts}
 use Rattle.map.proofs.CountLaws.{bare-counts, past-counts, tally-small}
 use Rattle.map.proofs.parts.bare_row.Statement.{statement}
 use Rattle.map.proofs.parts.bare_row.Tie as tie
@@ -45,12 +41,13 @@ returns c =
     (λ t.
     let within = sym (r .ensures .fine) ∙ t in
     let good-is = bare-counts s (a .n) (a .start) (r .result .people) room within (r .ensures .people t) in (
-      c .counted .ensures .0 ∙ sym (takes (bad 2) t) ∙ good-is,
-      c .counted .ensures .1 (a .n) (λ _. tally-small s (a .n) (a .start) [] (omega arith) room within good-is),
+      (λ widths. c .counted .ensures .0 ∙ sym (takes (bad 2) t) ∙ good-is widths),
+      c .counted .ensures .1 (a .n)
+          (λ _. tally-small s (a .n) (a .start) [] [] (omega arith) (λ i l. omega arith) room within (good-is [])),
     ))
     (λ t. (
-      c .counted .ensures .0 ∙ sym (leaves (good there end) t)
-          ∙ past-counts s (a .n) (a .start) [] room (sym (r .ensures .fine) ∙ t),
+      (λ widths. c .counted .ensures .0 ∙ sym (leaves (good there end) t)
+          ∙ past-counts s (a .n) (a .start) [] widths room (sym (r .ensures .fine) ∙ t)),
       c .counted .ensures .1 (a .n) (λ u. not-both u t),
     ))
 

@@ -1,5 +1,5 @@
 -- `map::parts::boxed_row`: the cells taken apart and held against the boxes, if each is within its limits. Assumes nothing.
-use Prim.Native.Nat.{ℕ, _+_, _*_}
+use Prim.Native.Nat.{_+_, _*_}
 use mathlib.Core.Path.{sym, _∙_}
 use denote.Ref.{now}
 use borrow.Author.Needs.{needs}
@@ -16,8 +16,8 @@ take-row-requires c κs = search needs
 count-row-requires : tie.Need-count-row-requires
 count-row-requires c κs = search needs
 
-cast-t17 : tie.Need-cast-t17
-cast-t17 c = search needs
+cast-t18 : tie.Need-cast-t18
+cast-t18 c = search needs
 
 mul-counted : tie.Need-mul-counted
 mul-counted c = search needs
@@ -36,24 +36,26 @@ returns c =
     let a = begin .args in
     let s = now (a .s) in
     let edges = now (a .edges) in
+    let widths = now (a .widths) in
     let room = begin .pre .0 in
     let r = c2 .count-row in
     let taken = c6 .take-row .ensures in
     let is = fine-within s (a .start) (a .n) taken (r .ensures) in
-    let there = counts (r .result .people) (a .n) (r .result .«boxed_people») (r .result .«boxed_cells») in
+    let there = counts (r .result .people) (a .n) (r .result .«boxed_mhz_pops») (r .result .«boxed_cells») in
     by-test (r .result .fine)
     (λ t.
     let read = boxed-counts s (a .start) (a .n) taken (r .ensures) room t in (
       c .counted .ensures .0 ∙ sym (takes (bad 2) t) ∙ read,
-      c .counted .ensures .1 (a .n) (λ _. tally-small s (a .n) (a .start) edges (begin .pre .2) room (sym is ∙ t) read),
+      c .counted .ensures .1 (a .n)
+          (λ _. tally-small s (a .n) (a .start) edges widths (begin .pre .2) (r .ensures .narrow t) room (sym is ∙ t) read),
     ))
     (λ t. (
       c .counted .ensures .0 ∙ sym (leaves (good there (a .start + 12 * a .n)) t)
-          ∙ past-counts s (a .n) (a .start) edges room (sym is ∙ t),
+          ∙ past-counts s (a .n) (a .start) edges widths room (sym is ∙ t),
       c .counted .ensures .1 (a .n) (λ u. not-both u t),
     ))
 
 pub boxed-row-spec : {M : Type 1} → statement M
 boxed-row-spec =
     tie.close
-    (tie.spec take-row-requires count-row-requires cast-t17 mul-counted add-counted counted-requires returns)
+    (tie.spec take-row-requires count-row-requires cast-t18 mul-counted add-counted counted-requires returns)

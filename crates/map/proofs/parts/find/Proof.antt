@@ -28,7 +28,7 @@ unfolding readMap seek
 returns c =
     let c3 = c .before .before .before in
     let a = c3 .before .before .args in
-    ap (seek (countedArea (now (a .edges))) (a .number))
+    ap (seek (countedArea (now (a .edges)) (now (a .widths))) (a .number))
     (bind-bad _ (sym (ap fieldMeans (c .before .f .given .1)) ∙ c3 .u8-field .ensures .0))
 
 returns-2 : tie.Need-returns-2
@@ -37,7 +37,7 @@ returns-2 c =
     let c4 = c .before .before .before .before in
     let a = c4 .before .before .args in
     c .areas .ensures
-    ∙ ap (seek (countedArea (now (a .edges))) (a .number))
+    ∙ ap (seek (countedArea (now (a .edges)) (now (a .widths))) (a .number))
     (bind-good _ (sym (ap fieldMeans (c .before .before .count .given .1)) ∙ c4 .u8-field .ensures .0))
 
 pub find-spec : {M : Type 1} → statement M

@@ -1,6 +1,6 @@
 -- `map::parts::row`: the room of the bit map, the bits past the last column, the room of the cells, then the cells. Assumes nothing.
-use Prim.Native.Nat.{ℕ, _+_, _*_, _≤_, _<_}
-use mathlib.Core.Path.{_≡_, refl, sym, ap, _∙_, subst}
+use Prim.Native.Nat.{_+_, _*_, _≤_}
+use mathlib.Core.Path.{_≡_, refl, sym, ap, _∙_}
 use mathlib.Core.Bool.{true}
 use mathlib.Core.List.{List, [], _∷_}
 use native.Mathlib.Omega.{arith}
@@ -8,14 +8,13 @@ use borrow.Author.Tests.{not-true, not-false}
 use denote.Ref.{now}
 use lib.IntN.{ℤ}
 use lib.ListN.{length}
-use Rattle.lists.proofs.Tests.{takes, leaves}
+use Rattle.lists.proofs.Tests.{leaves}
 use Rattle.map.proofs.FieldLaws.{room, no-room, field-ends, bit-map-is, bind-bad}
 use Rattle.map.proofs.LoopLaws.{tally-more}
-use Rattle.map.proofs.RowLaws.{pastClear, cellCount}
+use Rattle.map.proofs.RowLaws.{pastClear}
 use Rattle.map.proofs.CountLaws.{row-is, row-few}
 use Rattle.map.proofs.ShortLaws.{cells-short}
-use Rattle.map.specs.Reading.{Read, bad, mapRead}
-use Rattle.map.specs.declared.parts.Counts.{Counts}
+use Rattle.map.specs.Reading.{bad, mapRead}
 use Rattle.map.specs.Format.{bitMapBytes, readRow}
 use Rattle.map.specs.Counting.{cellCounts, rowCounts}
 use Rattle.map.specs.Cells.{readCells}
@@ -36,7 +35,7 @@ returns c =
     let w = bitMapBytes (a .columns) in
     let short = no-room (a .at + w) (length (now (a .s))) (c .before .has-room .ensures)
     (not-true (c .before .has-room .result) (c .if1 .taken)) in
-    (ap (mapRead (rowCounts (now (a .edges)))) (bind-bad _ (field-ends (now (a .s)) (a .at) w tt _ short)), tt)
+    (ap (mapRead (rowCounts (now (a .edges)) (now (a .widths)))) (bind-bad _ (field-ends (now (a .s)) (a .at) w tt _ short)), tt)
 
 mul-clear : tie.Need-mul-clear
 mul-clear c = search needs
@@ -57,7 +56,8 @@ returns-2 c =
     let c2 = c .before .before in
     let a = c2 .before .before .before .args in
     let stands = leaves _ (sym (c .before .clear .ensures) ∙ not-true (c .before .clear .result) (c .if2 .taken)) in
-    (ap (mapRead (rowCounts (now (a .edges)))) (bind-bad _ (bit-map-is (now (a .s)) (a .columns) (a .at) stands (fits c2))), tt)
+    let is = bind-bad _ (bit-map-is (now (a .s)) (a .columns) (a .at) stands (fits c2)) in
+    (ap (mapRead (rowCounts (now (a .edges)) (now (a .widths)))) is, tt)
 
 cells-in-requires : tie.Need-cells-in-requires
 cells-in-requires c κs =
@@ -97,6 +97,7 @@ returns-3 c =
     let a = c3 .before .before .before .before .before .before .args in
     let s = now (a .s) in
     let edges = now (a .edges) in
+    let widths = now (a .widths) in
     let start = a .at + bitMapBytes (a .columns) in
     let n = c3 .cells-in .result in
     let there = fits (c3 .before .before .before) in
@@ -104,8 +105,8 @@ returns-3 c =
     (not-true (c .before .before .has-room2 .result) (c .before .if3 .taken)) in
     let f = cells-short s n start there short in (
       ap bad (c .first-fault .ensures (f .fault) (f .is))
-          ∙ ap (mapRead (cellCounts edges)) (sym (f .is))
-          ∙ row-is s (a .columns) (a .at) (clear c3) (c3 .cells-in .ensures .0) edges there,
+          ∙ ap (mapRead (cellCounts edges widths)) (sym (f .is))
+          ∙ row-is s (a .columns) (a .at) (clear c3) (c3 .cells-in .ensures .0) edges widths there,
       tt,
     )
 
@@ -132,11 +133,12 @@ returns-4 c =
     let a = c4 .before .before .before .before .before .before .args in
     let s = now (a .s) in
     let edges = now (a .edges) in
+    let widths = now (a .widths) in
     let start = a .at + bitMapBytes (a .columns) in
     let n = c4 .cells-in .result in (
-      c .bare-row .ensures .0
-          ∙ ap (λ (l : List ℤ). mapRead (cellCounts l) (readCells s n start)) (nothing edges (c .before .if4 .taken))
-          ∙ row-is s (a .columns) (a .at) (clear c4) (c4 .cells-in .ensures .0) edges (fits (c4 .before .before .before)),
+      c .bare-row .ensures .0 widths
+          ∙ ap (λ (l : List ℤ). mapRead (cellCounts l widths) (readCells s n start)) (nothing edges (c .before .if4 .taken))
+          ∙ row-is s (a .columns) (a .at) (clear c4) (c4 .cells-in .ensures .0) edges widths (fits (c4 .before .before .before)),
       tally-more (row-few s (a .columns) (a .at) (clear c4) (c4 .cells-in .ensures .0)) (c .bare-row .result) (c .bare-row .ensures .1),
     )
 
@@ -152,7 +154,8 @@ returns-5 c =
     let a = c7 .before .before .before .before .before .before .args in
     let s = now (a .s) in (
       c .boxed-row .ensures .0
-          ∙ row-is s (a .columns) (a .at) (clear c7) (c7 .cells-in .ensures .0) (now (a .edges)) (fits (c7 .before .before .before)),
+          ∙ row-is s (a .columns) (a .at) (clear c7) (c7 .cells-in .ensures .0) (now (a .edges)) (now (a .widths))
+          (fits (c7 .before .before .before)),
       tally-more (row-few s (a .columns) (a .at) (clear c7) (c7 .cells-in .ensures .0)) (c .boxed-row .result) (c .boxed-row .ensures .1),
     )
 

@@ -12,14 +12,15 @@ use Rattle.map.proofs.parts.walk.Statement.{statement}
 use Rattle.map.proofs.parts.walk.Tie as tie
 
 abbrev Inv-loop : tie.InvT-loop
-Inv-loop s columns rows start edges people₀ latitudes₀ longitudes₀ at₀ sum₀ i₀ people latitudes longitudes at sum i =
-    Walk (λ _ a. readRow s columns a) (rowCounts edges) (gridCounts edges) (grid-adds edges) 256 rows start i at sum
+Inv-loop s columns rows start edges widths people₀ latitudes₀ longitudes₀ at₀ sum₀ i₀ people latitudes longitudes at sum i =
+    Walk (λ _ a. readRow s columns a) (rowCounts edges widths) (gridCounts edges widths)
+    (grid-adds edges widths) 256 rows start i at sum
 
 abbrev μ-loop : tie.MeasureT-loop
-μ-loop s columns rows start edges people₀ latitudes₀ longitudes₀ at₀ sum₀ i₀ people latitudes longitudes at sum i = rows - i
+μ-loop s columns rows start edges widths people₀ latitudes₀ longitudes₀ at₀ sum₀ i₀ people latitudes longitudes at sum i = rows - i
 
 loop-holds : tie.Need-loop-holds Inv-loop μ-loop
-loop-holds c = walk-starts (grid-adds (now (c .before .args .edges)))
+loop-holds c = let a = c .before .args in walk-starts (grid-adds (now (a .edges)) (now (a .widths)))
 
 row-requires : tie.Need-row-requires Inv-loop μ-loop
 row-requires c κs =

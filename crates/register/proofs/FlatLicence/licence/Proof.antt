@@ -1,13 +1,21 @@
--- `register::FlatLicence::licence` meets its contract. Assumes nothing.
+-- `register::FlatLicence::licence` meets its contract: the licence of the place at the width that it keeps. Assumes nothing.
+use mathlib.Core.Path.{ap, _∙_}
 use borrow.Author.Needs.{needs}
+use Rattle.register.specs.Licences.{licenceAtWidth}
 use Rattle.register.proofs.FlatLicence.licence.Statement.{statement}
 use Rattle.register.proofs.FlatLicence.licence.Tie as tie
 
-ground-requires : tie.Need-ground-requires
-ground-requires c κs = search needs
+width-requires : tie.Need-width-requires
+width-requires c κs = search needs
+
+cast-granted : tie.Need-cast-granted
+cast-granted c = search needs
+
+granted-requires : tie.Need-granted-requires
+granted-requires c κs = search needs
 
 returns : tie.Need-returns
-returns c = λ i. record { «call_sign» = c .before .args .self .«call_sign»; ground = c .ground .ensures i }
+returns c = c .granted .ensures ∙ ap (licenceAtWidth (c .before .before .args .self)) (c .before .width .ensures)
 
 pub licence-spec : {M : Type 1} → statement M
-licence-spec = tie.close (tie.spec ground-requires returns)
+licence-spec = tie.close (tie.spec width-requires cast-granted granted-requires returns)

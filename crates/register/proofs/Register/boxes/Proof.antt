@@ -1,4 +1,4 @@
--- `register::Register::boxes`: the last place with a box, and the edges up to the next multiple of 8. Assumes nothing.
+-- `register::Register::boxes`: the last place with a box, and the edges and widths up to the next multiple of 8. Assumes nothing.
 use mathlib.Core.Path.{refl}
 use native.Mathlib.Omega.{arith}
 use borrow.Author.Needs.{needs}
@@ -17,13 +17,17 @@ mul-count c = search needs
 edges-requires : tie.Need-edges-requires
 edges-requires c κs = search needs
 
+widths-requires : tie.Need-widths-requires
+widths-requires c κs = search needs
+
 returns : tie.Need-returns
 returns c =
-    let last = c .before .last-box in
+    let last = c .before .before .last-box in
     record {
       counts = record { last = last .result; found = last .ensures; padded = refl; few = omega (arith, last .ensures .few) };
-      edges = c .edges .ensures;
+      edges = c .before .edges .ensures;
+      widths = c .widths .ensures;
     }
 
 pub boxes-spec : {M : Type 1} → statement M
-boxes-spec = tie.close (tie.spec last-box-requires add-count mul-count edges-requires returns)
+boxes-spec = tie.close (tie.spec last-box-requires add-count mul-count edges-requires widths-requires returns)

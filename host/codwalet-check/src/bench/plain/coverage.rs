@@ -2,10 +2,10 @@
 
 use super::map::Area;
 use super::row::Row;
-use codwalet::raw::{GROUND_AREA, GROUND_BOX, Held, Licence, Register};
+use codwalet::raw::{FULL_WIDTH, GROUND_AREA, GROUND_BOX, Held, Licence, Register};
 use std::ops::Add;
 
-/// People and cells, counted once for each licence over them.
+/// People and cells.
 #[derive(Clone, Copy, Default)]
 pub struct Count {
     pub people: u64,
@@ -13,9 +13,9 @@ pub struct Count {
 }
 
 impl Count {
-    /// By so many licences.
-    pub fn times(self, licences: u64) -> Count {
-        Count { people: licences * self.people, cells: licences * self.cells }
+    /// What licences over all of it cover.
+    pub fn under(self, licences: Licences) -> Covered {
+        Covered { mhz_pops: licences.mhz * self.people, cells: licences.count * self.cells }
     }
 }
 
@@ -27,10 +27,47 @@ impl Add for Count {
     }
 }
 
-/// The grounds of the licences in force: the areas by number, and the boxes.
+/// How many licences there are, and their widths added up.
+#[derive(Clone, Copy, Default)]
+pub struct Licences {
+    pub count: u64,
+    mhz: u64,
+}
+
+impl Licences {
+    /// A licence alone. In a register that was forged it may have no width.
+    fn one(licence: &Licence) -> Licences {
+        Licences { count: 1, mhz: u64::from(FULL_WIDTH.saturating_sub(u32::from(licence.narrower_by))) }
+    }
+}
+
+impl Add for Licences {
+    type Output = Licences;
+
+    fn add(self, other: Licences) -> Licences {
+        Licences { count: self.count + other.count, mhz: self.mhz + other.mhz }
+    }
+}
+
+/// What licences cover: c, and cells, counted once for each licence over them.
+#[derive(Clone, Copy, Default)]
+pub struct Covered {
+    pub mhz_pops: u64,
+    pub cells: u64,
+}
+
+impl Add for Covered {
+    type Output = Covered;
+
+    fn add(self, other: Covered) -> Covered {
+        Covered { mhz_pops: self.mhz_pops + other.mhz_pops, cells: self.cells + other.cells }
+    }
+}
+
+/// The licences in force: those for areas, and those for boxes.
 #[derive(Default)]
 pub struct Grounds {
-    areas: Vec<u16>,
+    areas: Vec<Licence>,
     boxes: Vec<Licence>,
     /// The one area in which they count, if no other is asked for.
     only: Option<u16>,
@@ -44,7 +81,7 @@ impl Grounds {
     pub fn of(register: &Register) -> Grounds {
         let in_force = || register.places.iter().filter(|place| place.call_sign != 0);
         Grounds {
-            areas: in_force().filter(|place| place.kind == GROUND_AREA).map(|place| place.area).collect(),
+            areas: in_force().filter(|place| place.kind == GROUND_AREA).copied().collect(),
             boxes: in_force().filter(|place| place.kind == GROUND_BOX).copied().collect(),
             only: None,
         }
@@ -60,9 +97,10 @@ impl Grounds {
         if self.only.is_none_or(|only| only == number) { self } else { &NONE }
     }
 
-    /// How many licences name an area.
-    pub fn naming(&self, number: u16) -> u64 {
-        self.areas.iter().filter(|&&area| area == number).count() as u64
+    /// The licences that name an area.
+    pub fn naming(&self, number: u16) -> Licences {
+        let naming = self.areas.iter().filter(|licence| licence.area == number);
+        naming.map(Licences::one).fold(Licences::default(), Licences::add)
     }
 
     /// Whether a licence has a box.
@@ -71,9 +109,9 @@ impl Grounds {
     }
 
     /// What boxes cover in a row.
-    pub fn boxed(&self, row: &Row) -> Count {
+    pub fn boxed(&self, row: &Row) -> Covered {
         let met = self.boxes.iter().filter(|edges| meets(edges, row));
-        met.map(|edges| within(edges, row)).fold(Count::default(), Count::add)
+        met.map(|edges| within(edges, row).under(Licences::one(edges))).fold(Covered::default(), Covered::add)
     }
 
     /// Marks the cells of a row that boxes cover.
@@ -133,15 +171,15 @@ fn count(is_covered: impl Iterator<Item = bool>, people: &[u32]) -> Count {
 impl Area<'_> {
     /// The area's blocks.
     pub fn blocks(&self) -> Held {
-        let whole = self.covered.people / (2 * self.population);
-        let rest = self.covered.people % (2 * self.population);
-        if 50 * rest >= 99 * self.population {
+        let whole = self.covered.mhz_pops / (100 * self.population);
+        let rest = self.covered.mhz_pops % (100 * self.population);
+        if rest >= 99 * self.population {
             return Held { whole: whole + 1, ..Held::default() };
         }
         if rest == 0 {
             return Held { whole, ..Held::default() };
         }
         let weight = u64::from(self.weight);
-        Held { whole, value: 50 * weight * rest, size: 100 * weight * self.population, ..Held::default() }
+        Held { whole, value: weight * rest, size: 100 * weight * self.population, ..Held::default() }
     }
 }

@@ -29,7 +29,7 @@ impl Grid {
     fn of(area: &Area, grounds: &Grounds) -> Result<Grid, u32> {
         let stride = area.columns + 1;
         let places = (area.rows + 2) * stride;
-        let named = grounds.naming(area.number) > 0;
+        let named = grounds.naming(area.number).count > 0;
         let mut grid = Grid { stride, people: vec![0; places], cells: vec![false; places], set: vec![false; places] };
         let mut first = stride;
         area.each_row(|bits, row| {

@@ -1,6 +1,6 @@
 //! The map reader. The cells of a row are taken as one part of the map, by the count of bits that stand.
 
-use super::coverage::{Count, Grounds};
+use super::coverage::{Count, Covered, Grounds};
 use super::row::{CELL, Row, people_within_limits};
 use codwalet::limits::{AREA_NUMBER, AREAS, LATITUDE, LONGITUDE, PEOPLE, POPULATION, SIDE, WEIGHT};
 use codwalet::raw::{MAP_ENDS, MAP_EXTRA, MAP_LIMIT, MAP_ORDER, MAP_POPULATION};
@@ -14,7 +14,7 @@ pub struct Area<'a> {
     /// The map from the area's first row on.
     body: &'a [u8],
     pub population: u64,
-    pub covered: Count,
+    pub covered: Covered,
 }
 
 /// What is still to be read of a map.
@@ -62,7 +62,7 @@ impl<'a> Reader<'a> {
         let rows = self.side()?;
         let columns = self.side()?;
         let body = self.rest;
-        let (mut all, mut boxed) = (Count::default(), Count::default());
+        let (mut all, mut boxed) = (Count::default(), Covered::default());
         for _ in 0..rows {
             let (_, cells) = self.row(columns)?;
             let people = if grounds.has_boxes() { row.take(cells) } else { people_within_limits(cells) };
@@ -70,7 +70,7 @@ impl<'a> Reader<'a> {
             boxed = boxed + grounds.boxed(row);
         }
         let population = limited(all.people, 1, POPULATION).map_err(|_| MAP_POPULATION)?;
-        let covered = all.times(grounds.naming(number)) + boxed;
+        let covered = all.under(grounds.naming(number)) + boxed;
         Ok(Area { number, weight, rows, columns, body, population, covered })
     }
 }

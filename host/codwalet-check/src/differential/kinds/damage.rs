@@ -21,9 +21,10 @@ pub fn case(random: &mut Random) -> Case {
         damage(random, &mut map, &areas);
     }
     let grounds = build::grounds(random, &areas, 2);
+    let held = build::of_widths(random, &grounds);
     let mut calls = vec![Call::CheckMap, Call::Propose(0), build::footprint_call(random)];
     calls.extend((0..4).map(|_| build::read_call(random, &areas)));
-    Case { map, start: Some(build::register(random, &grounds)), calls, fill: random.word() }
+    Case { map, start: Some(build::register(random, &held)), calls, fill: random.word() }
 }
 
 fn damage(random: &mut Random, map: &mut Vec<u8>, areas: &[Area]) {

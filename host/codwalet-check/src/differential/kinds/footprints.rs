@@ -3,7 +3,7 @@
 use crate::differential::build::{self, SMALL, Style};
 use crate::differential::case::{Call, Case};
 use crate::random::Random;
-use crate::reference::{self, Area, Cell, Ground, Licence};
+use crate::reference::{Area, Cell, Ground};
 
 const GRID: Style = Style { sides: (2, 12), people: 9, weight: 4, gap_in: 12, nobody_in: 5 };
 
@@ -19,7 +19,8 @@ fn box_of(random: &mut Random, area: &Area, side: i64) -> Ground {
 
 /// The people of an area under a ground.
 fn people_under(area: &Area, ground: Ground) -> u64 {
-    reference::covered(&[Licence { call_sign: 1, ground }], area).people
+    let covers = |cell: &&Cell| ground.covers(area.number, cell);
+    area.cells.iter().flatten().filter(covers).map(|cell| u64::from(cell.people)).sum()
 }
 
 /// As many licences over a ground as leave its area partial, and not enough to be rounded up: at least 3, at most 40.

@@ -105,9 +105,10 @@ fn large_map(random: &mut Random) -> Case {
     let areas = build::areas(random, count, style);
     let licences = random.between(1, 3);
     let grounds: Vec<Ground> = (0..licences).map(|_| build::box_on_cells(random, &areas[0])).collect();
+    let held = build::of_widths(random, &grounds);
     Case {
         map: write_map(&areas),
-        start: Some(build::register(random, &grounds)),
+        start: Some(build::register(random, &held)),
         calls: vec![
             Call::CheckMap,
             Call::LookUp(areas[count - 1].number),
@@ -144,7 +145,8 @@ pub fn partial_areas(random: &mut Random) -> Case {
     held.truncate(partial as usize);
     let grounds: Vec<Ground> = held.iter().map(|area| some_of(random, area)).collect();
     let call = if random.once_in(3) { build::footprint_call(random) } else { Call::Propose(build::draw(random)) };
-    let start = Some(build::register(random, &grounds));
+    let held = build::of_widths(random, &grounds);
+    let start = Some(build::register(random, &held));
     Case { map: write_map(&areas), start, calls: vec![call], fill: random.word() }
 }
 

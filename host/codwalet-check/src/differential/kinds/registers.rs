@@ -7,7 +7,7 @@ use crate::maps::write_map;
 use crate::random::Random;
 use crate::reference::{Area, Ground, Licence};
 use codwalet::limits::{LATITUDE, LONGITUDE};
-use codwalet::raw::{self, GROUND_AREA, GROUND_BOX, Register};
+use codwalet::raw::{self, FULL_WIDTH, GROUND_AREA, GROUND_BOX, Register};
 
 /// A call sign out of so many, or one of the ends.
 fn call_sign(random: &mut Random, count: usize) -> u32 {
@@ -28,6 +28,25 @@ fn edge(random: &mut Random, limit: i32) -> i32 {
     }
 }
 
+/// A byte that leaves a width, at its ends or past them, or any.
+fn narrower_by(random: &mut Random) -> u8 {
+    match random.below(3) {
+        0 => random.pick(&[0, 1, 49, 50, 51, 128, 206, 255]),
+        1 => random.below(FULL_WIDTH as usize) as u8,
+        _ => random.word() as u8,
+    }
+}
+
+/// A width for a grant: mostly one that is accepted, else at and past the limits, or any.
+fn width(random: &mut Random) -> u32 {
+    match random.below(8) {
+        0 => random.pick(&[0, 51, 255, 256, 257, 256 + FULL_WIDTH, 256 + FULL_WIDTH + 1, 1 << 31, u32::MAX]),
+        1 => random.pick(&[1 << 8, 1 << 16, 1 << 24]) + build::width(random),
+        2 => random.word() as u32,
+        _ => build::width(random),
+    }
+}
+
 /// A licence with every field at random: often ill-formed.
 fn any_licence(random: &mut Random, call_sign: u32) -> raw::Licence {
     let kind = match random.below(8) {
@@ -39,7 +58,7 @@ fn any_licence(random: &mut Random, call_sign: u32) -> raw::Licence {
         call_sign,
         area: random.pick(&[0, 1, 2, 3, 415, 416, 417, u16::MAX]),
         kind,
-        unused: random.word() as u8,
+        narrower_by: narrower_by(random),
         south: edge(random, LATITUDE),
         north: edge(random, LATITUDE),
         west: edge(random, LONGITUDE),
@@ -47,20 +66,24 @@ fn any_licence(random: &mut Random, call_sign: u32) -> raw::Licence {
     }
 }
 
-/// A licence to be granted: mostly well-formed, with what its ground has no use for at random.
+/// A licence to be granted: mostly well-formed, with what no grant reads at random.
 fn licence(random: &mut Random, areas: &[Area], call_sign: u32) -> raw::Licence {
     let any = any_licence(random, call_sign);
-    let good = raw_licence(&Licence { call_sign, ground: build::ground(random, areas) });
+    let good = raw_licence(&Licence::without_width(call_sign, build::ground(random, areas)));
     match (random.once_in(6), good.kind) {
         (true, _) => any,
         (false, GROUND_AREA) => raw::Licence { area: good.area, kind: good.kind, ..any },
-        (false, _) => raw::Licence { area: any.area, unused: any.unused, ..good },
+        (false, _) => raw::Licence { area: any.area, narrower_by: any.narrower_by, ..good },
     }
 }
 
 fn grant_or_cancel(random: &mut Random, areas: &[Area], signs: usize, grants_in_four: usize) -> Call {
     let sign = call_sign(random, signs);
-    if random.below(4) < grants_in_four { Call::Grant(licence(random, areas, sign)) } else { Call::Cancel(sign) }
+    if random.below(4) >= grants_in_four {
+        return Call::Cancel(sign);
+    }
+    let licence = licence(random, areas, sign);
+    if random.once_in(2) { Call::Grant(licence) } else { Call::GrantWidth(licence, width(random)) }
 }
 
 /// Grants and cancellations alone. With many call signs the register fills up.
@@ -73,7 +96,8 @@ pub fn grants_and_cancellations(random: &mut Random) -> Case {
         _ => {
             let count = random.pick(&[1, 30, 62, 63, 64]);
             let grounds = build::grounds(random, &areas, count);
-            Some(numbered(build::register(random, &grounds)))
+            let held = build::of_widths(random, &grounds);
+            Some(numbered(build::register(random, &held)))
         }
     };
     let count = random.between(1, 120);
@@ -89,8 +113,8 @@ fn numbered(mut register: Register) -> Register {
     register
 }
 
-/// A register that no calls can make: call signs in force twice, ill-formed grounds, and free places that are not all
-/// 0.
+/// A register that no calls can make: call signs in force twice, ill-formed grounds, licences of no width, and free
+/// places that are not all 0.
 fn forged_register(random: &mut Random, areas: &[Area]) -> Register {
     let mut register = NO_LICENCE;
     let signs = random.pick(&[1, 5, 100]);
@@ -100,7 +124,10 @@ fn forged_register(random: &mut Random, areas: &[Area]) -> Register {
         *place = match random.below(3) {
             0 => any_licence(random, sign),
             1 => licence(random, areas, sign),
-            _ => raw_licence(&Licence { call_sign: sign, ground: Ground::Area(areas[0].number) }),
+            _ => {
+                let licence = raw_licence(&Licence::without_width(sign, Ground::Area(areas[0].number)));
+                raw::Licence { narrower_by: narrower_by(random), ..licence }
+            }
         };
     }
     register

@@ -1,7 +1,7 @@
 //! Engines that count covered cells wrongly, or let them decide.
 
 use super::Mistake::{self, *};
-use super::{Wrong, answers, cases, first_difference};
+use super::{Wrong, answers, cases, first_difference, widths};
 use crate::maps::write_map;
 use crate::reference::{self, Area, Cell, Ground, Licence};
 use codwalet::raw::{Covered, GETS_NOTHING, GETS_WHOLE, Given, Proposal};
@@ -15,6 +15,8 @@ fn coverage_count(mistake: Mistake) -> Option<Count> {
         CoverageOfEachCellOnce => Some(once),
         CoverageOfCellsUnderBoxes => Some(under_boxes),
         CoverageOfPlaces => Some(places),
+        CoverageCellsTimesWidth => Some(widths::cells_times_width),
+        CoverageCellsOfNoWidth => Some(widths::cells_of_some_width),
         _ => None,
     }
 }
@@ -26,6 +28,8 @@ fn proposal_count(mistake: Mistake) -> Option<Count> {
         ProposalOfCellsUnderBoxes => Some(under_boxes),
         ProposalOfPlaces => Some(places),
         ProposalOfPartialAreasAlone => Some(of_partial),
+        ProposalCellsTimesWidth => Some(widths::cells_times_width),
+        ProposalCellsOfNoWidth => Some(widths::cells_of_some_width),
         _ => None,
     }
 }

@@ -19,6 +19,10 @@ impl Engine for Plain {
         plain::grant(current, licence)
     }
 
+    fn grant_width(&self, current: Register, licence: Licence, width: u32) -> Step {
+        plain::grant_width(current, licence, width)
+    }
+
     fn cancel(&self, current: Register, call_sign: u32) -> Step {
         plain::cancel(current, call_sign)
     }

@@ -5,7 +5,7 @@
 
 use super::grid::{Grid, path, stroke};
 use super::shapes::{Line, Rectangle};
-use codwalet::{Cell, GeoBox};
+use codwalet::{Cell, GeoBox, Licence};
 
 /// Colours of boxes, in turn, so that lines that cross can be told apart.
 const COLOURS: [&str; 5] = ["#9d174d", "#166534", "#6d28d9", "#7c4a03", "#0f5e6e"];
@@ -18,7 +18,7 @@ const DASH_GAP: f64 = 4.0;
 
 /// A box as it is drawn. Boxes that cover the same cells are drawn as one, the first by call sign.
 pub(super) struct DrawnBox {
-    pub call_signs: Vec<u32>,
+    pub licences: Vec<Licence>,
     pub colour: &'static str,
     pub lines: Vec<Line>,
     /// The rectangle around its lines.
@@ -27,10 +27,10 @@ pub(super) struct DrawnBox {
 }
 
 impl DrawnBox {
-    fn new(call_sign: u32, colour: &'static str, lines: Vec<Line>, path: String) -> DrawnBox {
+    fn new(licence: Licence, colour: &'static str, lines: Vec<Line>, path: String) -> DrawnBox {
         let empty = Rectangle { left: f64::MAX, right: f64::MIN, top: f64::MAX, bottom: f64::MIN };
         let frame = lines.iter().map(Line::frame).fold(empty, |frame, line| frame.with(&line));
-        DrawnBox { call_signs: vec![call_sign], colour, lines, frame, path }
+        DrawnBox { licences: vec![licence], colour, lines, frame, path }
     }
 
     /// Whether one of its lines runs through a rectangle.
@@ -59,15 +59,15 @@ impl Grid<'_> {
     pub(super) fn boxes(&self) -> Vec<DrawnBox> {
         let fits = Fits::new(self);
         let (mut boxes, mut sets): (Vec<DrawnBox>, Vec<Vec<usize>>) = (Vec::new(), Vec::new());
-        for (call_sign, edges) in self.drawing.boxes() {
+        for (licence, edges) in self.drawing.boxes() {
             let set: Vec<usize> =
                 self.placed().filter(|(_, cell)| edges.covers(cell)).map(|(place, _)| place).collect();
             if let Some(same) = sets.iter().position(|other| *other == set) {
-                boxes[same].call_signs.push(call_sign);
+                boxes[same].licences.push(licence);
                 continue;
             }
             let (path, lines) = self.box_path(fits.as_ref(), &edges);
-            boxes.push(DrawnBox::new(call_sign, COLOURS[boxes.len() % COLOURS.len()], lines, path));
+            boxes.push(DrawnBox::new(licence, COLOURS[boxes.len() % COLOURS.len()], lines, path));
             sets.push(set);
         }
         boxes

@@ -34,7 +34,7 @@ impl Labels {
         let labels = place(grid, boxes, CALL_SIGN, call_signs);
         let is_clear = |label: &Label| label.spot.crossed == 0 && label.spot.tie.is_none();
         let are_few = boxes.len() <= MOST_BOXES_WITH_CALL_SIGNS
-            && boxes.iter().all(|drawn| drawn.call_signs.len() <= MOST_CALL_SIGNS_OF_BOX);
+            && boxes.iter().all(|drawn| drawn.licences.len() <= MOST_CALL_SIGNS_OF_BOX);
         if are_few && labels.len() == boxes.len() && labels.iter().all(is_clear) {
             return Labels { numbered: false, labels, font: CALL_SIGN };
         }
@@ -49,7 +49,7 @@ impl Labels {
 }
 
 fn call_signs(drawn: &DrawnBox) -> String {
-    drawn.call_signs.iter().map(u32::to_string).collect::<Vec<String>>().join(", ")
+    drawn.licences.iter().map(|licence| licence.call_sign().to_string()).collect::<Vec<String>>().join(", ")
 }
 
 /// The labels with these words, for the boxes that have room for one.

@@ -6,6 +6,7 @@ use super::words::{Font, PLAIN, SMALL, STRONG, tenths};
 use super::{INK, RING, is_ring};
 use crate::answers::counted;
 use crate::picture::{Drawing, Mark, NO_RING};
+use codwalet::{Licence, limits};
 
 /// The height of a line of words, and of a line of a list.
 const LINE: f64 = 18.0;
@@ -28,7 +29,7 @@ struct Entry {
     /// The colour of its box, if it has one.
     colour: Option<&'static str>,
     number: Option<usize>,
-    call_sign: u32,
+    licence: Licence,
 }
 
 impl Legend {
@@ -44,7 +45,7 @@ impl Legend {
             self.words(PLAIN, 0.0, NO_RING);
         }
         self.list(&boxes_heading(boxes, numbered), &box_entries(boxes, numbered));
-        let whole_area = drawing.whole_area().map(|call_sign| Entry { colour: None, number: None, call_sign });
+        let whole_area = drawing.whole_area().map(|licence| Entry { colour: None, number: None, licence });
         self.list("Licences for the whole area", &whole_area.collect::<Vec<Entry>>());
     }
 
@@ -88,19 +89,19 @@ impl Legend {
 
 fn boxes_heading(boxes: &[DrawnBox], numbered: bool) -> String {
     let shown = if numbered { "Boxes of licences, by number" } else { "Boxes of licences" };
-    let shared = boxes.iter().any(|drawn| drawn.call_signs.len() > 1);
+    let shared = boxes.iter().any(|drawn| drawn.licences.len() > 1);
     let said = if shared { " (those over the same cells are drawn as one)" } else { "" };
     format!("{shown}{said}")
 }
 
 fn box_entries(boxes: &[DrawnBox], numbered: bool) -> Vec<Entry> {
     let entries = boxes.iter().enumerate().flat_map(|(index, drawn)| {
-        let entry = move |&call_sign: &u32| Entry {
+        let entry = move |&licence: &Licence| Entry {
             colour: Some(drawn.colour),
             number: numbered.then_some(index + 1),
-            call_sign,
+            licence,
         };
-        drawn.call_signs.iter().map(entry)
+        drawn.licences.iter().map(entry)
     });
     entries.collect()
 }
@@ -112,7 +113,13 @@ impl Entry {
     /// The room between columns of entries.
     const COLUMN_ROOM: f64 = 2.0 * GAP;
 
-    /// How far to the right of the entry's edge its call sign stands.
+    /// The call sign, and the width of a licence that is narrower than 50 MHz.
+    fn words(&self) -> String {
+        let (call_sign, mhz) = (self.licence.call_sign(), self.licence.width());
+        if mhz == limits::FULL_WIDTH { call_sign.to_string() } else { format!("{call_sign} ({mhz} MHz)") }
+    }
+
+    /// How far to the right of the entry's edge its words stand.
     fn indent(&self) -> f64 {
         let sign = self.colour.map_or(0.0, |_| SIGN);
         sign + self.number.map_or(0.0, |_| Entry::NUMBER_WIDTH)
@@ -120,7 +127,7 @@ impl Entry {
 
     /// The width with the room after it.
     fn width(&self) -> f64 {
-        self.indent() + SMALL.width(&self.call_sign.to_string()) + Entry::COLUMN_ROOM
+        self.indent() + SMALL.width(&self.words()) + Entry::COLUMN_ROOM
     }
 
     fn elements(&self, x: f64, y: f64) -> Vec<String> {
@@ -132,7 +139,7 @@ impl Entry {
             let (end, colour) = (x + self.indent() - GAP, self.colour.unwrap_or(INK));
             elements.push(Entry::NUMBER.ending((end, y), colour, &number.to_string()));
         }
-        elements.push(SMALL.element((x + self.indent(), y), &self.call_sign.to_string()));
+        elements.push(SMALL.element((x + self.indent(), y), &self.words()));
         elements
     }
 }
