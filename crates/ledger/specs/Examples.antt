@@ -23,7 +23,8 @@ words =
     2 ∷ 5 ∷ 0 ∷ 0 ∷ 0 ∷ 0 ∷ 0 ∷ 0 ∷
     3 ∷ 6 ∷ 0 ∷ 0 ∷ 0 ∷ 0 ∷ 0 ∷ 0 ∷
     4 ∷ 9 ∷ 0 ∷ 1_310_723 ∷ 0 ∷ 0 ∷ 0 ∷ 0 ∷
-    5 ∷ 6 ∷ 0 ∷ 0 ∷ 0 ∷ 0 ∷ 0 ∷ 0 ∷ []
+    5 ∷ 6 ∷ 0 ∷ 0 ∷ 0 ∷ 0 ∷ 0 ∷ 0 ∷
+    4 ∷ 9 ∷ 1 ∷ 1_310_723 ∷ 0 ∷ 36 ∷ 0 ∷ 36 ∷ []
 
 -- an area's number is its low 16 bits
 pub grants-area : (mask table : List ℕ) → itemAt words 0 mask table ≡ call (grant 7 (ground.Area 3) without)
@@ -52,6 +53,12 @@ outlines mask table = refl
 pub grants-width : (mask table : List ℕ) → itemAt words 40 mask table ≡ call (grant 9 (ground.Area 3) (mhz 20))
 unfolding itemAt groundAt
 grants-width mask table = refl
+
+-- a width beside a box, for which the low 16 bits of its word are not read
+pub grants-width-box : (mask table : List ℕ) → itemAt words 56 mask table ≡ call (grant 9
+    (ground.Box (record { south = pos 0; north = pos 36; west = pos 0; east = pos 36 })) (mhz 20))
+unfolding itemAt groundAt signed32
+grants-width-box mask table = refl
 
 -- no call has the kind 5
 pub says-none : (mask table : List ℕ) → itemAt words 48 mask table ≡ unknown
