@@ -1,5 +1,7 @@
 // The C interface: the engine's functions for callers in C and Rust, declared in host/include/codwalet.h. Structs are flat, have no
 // padding and cross by value; maps, masks and tables cross as pointer and length. Refusals are document 01's numbers, 0 for none.
+#![tactic(auto)]
+
 ghost use Rattle.std.specs.Prelude.{◌≡◌, map as each, length};
 ghost use Rattle.map.specs.Format.{read_map};
 ghost use Rattle.map.specs.Answers.{number_of};
@@ -22,7 +24,7 @@ use register::{FlatLicence, Licence, Register, Step};
 
 // An area of a map: its head, its population, and where its rows stand. All 0 where the map is refused or lacks the number.
 #[repr(C)]
-#[derive(Drop)]
+#[derive(Clone, Copy)]
 pub struct FoundArea {
     pub refusal: u32,
     pub weight: u32,
@@ -35,7 +37,7 @@ pub struct FoundArea {
 
 // The MHz-pops and the cells that licences in force cover in an area.
 #[repr(C)]
-#[derive(Drop)]
+#[derive(Clone, Copy)]
 pub struct Covered {
     pub mhz_pops: u64,
     pub cells: u64,
@@ -45,7 +47,7 @@ pub struct Covered {
 
 // The blocks of an area.
 #[repr(C)]
-#[derive(Drop)]
+#[derive(Clone, Copy)]
 pub struct Held {
     pub whole: u64,
     pub value: u64,
@@ -56,7 +58,7 @@ pub struct Held {
 
 // What a proposal gives an area, and its sum of cells. Gets is 0 for nothing, 1 for whole, 2 for rounded up and 3 for a share.
 #[repr(C)]
-#[derive(Drop)]
+#[derive(Clone, Copy)]
 pub struct Given {
     pub number: u32,
     pub gets: u32,
@@ -67,7 +69,7 @@ pub struct Given {
 
 // A proposal. The map's areas are the first count of areas, and the others are all 0.
 #[repr(C)]
-#[derive(Drop)]
+#[derive(Clone, Copy)]
 pub struct FlatProposal {
     pub refusal: u32,
     pub kind: u32,
@@ -80,7 +82,7 @@ pub struct FlatProposal {
 
 // What a footprint answers: the area's number, and at refusal 8 the count of entries that the table must have.
 #[repr(C)]
-#[derive(Drop)]
+#[derive(Clone, Copy)]
 pub struct Outline {
     pub refusal: u32,
     pub area: u32,

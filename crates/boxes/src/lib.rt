@@ -1,4 +1,6 @@
 // Boxes held against points, and against all cells of a row at once (document 01, "Coverage and blocks"). No way in for users.
+#![tactic(auto)]
+
 ghost use Rattle.std.specs.Prelude.{◌≡◌, cond, ◌&&◌, ◌||◌, ◌≤◌, ◌<◌, leb, pos, neg_ℤ, length, get_or};
 ghost use Rattle.std.specs.Int.Signed.{le_z, lt_z};
 ghost use Rattle.lists.specs.Sums.{flag, sum_to};
@@ -58,21 +60,21 @@ pub fn covering(edges: &[i32], latitude: i32, longitude: i32) -> u32
 }
 
 // The least and the greatest of some coordinates.
-#[derive(Drop)]
+#[derive(Clone, Copy)]
 struct Span {
     least: i32,
     greatest: i32,
 }
 
 // What a box covers of a row.
-#[derive(Drop)]
+#[derive(Clone, Copy)]
 struct Under {
     people: u32,
     cells: u32,
 }
 
 // What all boxes cover of a row, once for each box: MHz-pops, which are its width × the people, and cells.
-#[derive(Drop)]
+#[derive(Clone, Copy)]
 struct BoxSums {
     mhz_pops: u64,
     cells: u64,
@@ -80,7 +82,7 @@ struct BoxSums {
 
 // What a row's cells come to: whether all are within the map's limits and, if so, their people, and under the boxes the MHz-pops and
 // the cells, once for each box.
-#[derive(Drop)]
+#[derive(Clone, Copy)]
 pub struct RowCounts {
     pub fine: bool,
     pub people: u32,

@@ -1,5 +1,7 @@
 // Document 01, "Coverage and blocks", and document 02, Papers 1 and 4: the MHz-pops and the cells that the licences in force cover in an
 // area, and the blocks they come to. The ways in are coverage and blocks; the module parts serves the crates above.
+#![tactic(auto)]
+
 pub mod parts;
 
 ghost use Rattle.std.specs.Prelude.{◌≡◌};
@@ -14,7 +16,7 @@ use register::{Naming, Register};
 use units::{Cells, MhzPops, People, Weighted};
 
 // An area of a map with c, the MHz-pops that licences in force cover in it, and its sum of cells, those that they cover.
-#[derive(Drop)]
+#[derive(Clone, Copy)]
 pub struct Holding {
     pub number: u16,
     pub weight: u32,
@@ -24,7 +26,7 @@ pub struct Holding {
 }
 
 // The blocks of an area: whole ones, and the value v and the size M where it is partial, else 0.
-#[derive(Drop)]
+#[derive(Clone, Copy)]
 pub struct AreaBlocks {
     pub whole: u64,
     pub value: Weighted,
@@ -33,21 +35,21 @@ pub struct AreaBlocks {
 
 // The MHz-pops and the cells that licences in force cover in an area. Each licence over a cell counts its people once for each MHz of its
 // width, and the cell once.
-#[derive(Drop)]
+#[derive(Clone, Copy)]
 pub struct CoverageSums {
     pub mhz_pops: MhzPops,
     pub cells: Cells,
 }
 
 // The MHz-pops and the cells covered, or why the map is refused.
-#[derive(Drop)]
+#[derive(Clone, Copy)]
 pub enum CoverageAnswer {
     Refused(Fault),
     Covered(CoverageSums),
 }
 
 // The blocks held, or why the map is refused.
-#[derive(Drop)]
+#[derive(Clone, Copy)]
 pub enum BlocksAnswer {
     Refused(Fault),
     Held(AreaBlocks),
@@ -55,7 +57,7 @@ pub enum BlocksAnswer {
 
 // The areas of a map: the first count of areas, with their c, and the first count of stands, with where their rows stand, so that
 // the cells of one area are read without the others. A refused map has none.
-#[derive(Drop)]
+#[derive(Clone, Copy)]
 pub struct Holdings {
     pub checked: Checked,
     pub count: usize,

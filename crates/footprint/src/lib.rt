@@ -1,4 +1,6 @@
 // Document 01, "The footprint": the cells that a carrier keeps of the one area that it holds in part. The way in is footprint.
+#![tactic(auto)]
+
 ghost use Rattle.std.specs.Prelude.{◌≡◌, map as each, length};
 ghost use Rattle.map.specs.Format.{read_map};
 ghost use Rattle.register.specs.Licences.{in_force};
@@ -14,7 +16,7 @@ use rounds::Answer;
 use units::Weighted;
 
 // The number of the area whose footprint is made, or why there is none.
-#[derive(Drop)]
+#[derive(Clone, Copy)]
 pub enum FootprintAnswer {
     // 1 to 5: the map is refused.
     Refused(Fault),
@@ -30,14 +32,14 @@ pub enum FootprintAnswer {
 }
 
 // The place of the area that gets a share among the areas of the map, and the share.
-#[derive(Drop)]
+#[derive(Clone, Copy)]
 enum AreaShare {
     Nowhere,
     At(usize, Weighted),
 }
 
 // The area that a proposal shares, by where its rows stand, and the share; or the answer where there is none.
-#[derive(Drop)]
+#[derive(Clone, Copy)]
 enum PartialArea {
     Lacking(FootprintAnswer),
     Found(Area, Weighted),

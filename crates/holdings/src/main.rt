@@ -1,6 +1,8 @@
 // Plays a file of cases: maps that are checked and looked up in, calls on one register, and lists of calls that each start from an
 // empty one. They come in up to three blocks of 65,536 bytes.
 // `host/run cases --write` writes the cases and, by an implementation of its own, the lines that must come out.
+#![tactic(auto)]
+
 ghost use Rattle.std.specs.Prelude.{◌≡◌, ◌+◌, ◌<◌, ◌≤◌, length};
 
 use coverage::{BlocksAnswer, CoverageAnswer};
@@ -11,7 +13,7 @@ use proposal::{AreaAnswer, Gets, Proposal};
 use register::{GeoBox, Ground, Licence, Register};
 
 // How many bytes a case took, and the register that it leaves.
-#[derive(Drop)]
+#[derive(Clone, Copy)]
 struct Played {
     used: usize,
     register: Register,

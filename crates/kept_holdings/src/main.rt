@@ -1,6 +1,8 @@
 // Plays lists with a record: each case loads the record of a map, makes calls and proposals with it, and has it changed by other hands.
 // The register goes from case to case. The cases come in one block of 65,536 bytes.
 // `host/run cases --write` writes the cases and, by an implementation of its own, the lines that must come out.
+#![tactic(auto)]
+
 ghost use Rattle.std.specs.Prelude.{◌≤◌, ◌<◌, length};
 
 use map::fields;
@@ -11,14 +13,14 @@ use register::{GeoBox, Ground, Licence, Register};
 use units::{Cells, MhzPops, People};
 
 // What a call is made with, and what it leaves.
-#[derive(Drop)]
+#[derive(Clone, Copy)]
 struct Both {
     register: Register,
     kept: Record,
 }
 
 // How many bytes were played, and the register that they leave.
-#[derive(Drop)]
+#[derive(Clone, Copy)]
 struct Played {
     used: usize,
     register: Register,

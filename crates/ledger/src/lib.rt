@@ -1,4 +1,6 @@
 // Document 01, "The list of demand 3": a list of calls on one register, over one map. The way in is play.
+#![tactic(auto)]
+
 ghost use Rattle.std.specs.Prelude.{ℕ, ◌+◌, ◌≤◌, ◌≡◌, not, List, eqb, length};
 ghost use Rattle.lists.specs.Sums.{flag};
 ghost use Rattle.register.specs.declared.Ground.{Ground};
@@ -10,7 +12,7 @@ use map::fields;
 use register::{GeoBox, Ground, Licence, Register};
 
 // What comes of a list: the register after its last call, how many calls were made, and how many of them were refused.
-#[derive(Drop)]
+#[derive(Clone, Copy)]
 pub struct Played {
     pub register: Register,
     pub calls: usize,
@@ -19,7 +21,7 @@ pub struct Played {
 
 // What an item of the list leaves: whether a call was made, the register, and document 01's number of its refusal, 0 where it is not
 // refused.
-#[derive(Drop)]
+#[derive(Clone, Copy)]
 struct Next {
     made: bool,
     register: Register,

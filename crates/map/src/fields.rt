@@ -9,14 +9,14 @@ ghost use Rattle.map.specs.Answers.{field_means, field_value, coordinate_means};
 use super::Fault;
 
 // A field without a sign.
-#[derive(Drop)]
+#[derive(Clone, Copy)]
 pub enum Field {
     Bad(Fault),
     Good(u32, usize),
 }
 
 // A field with a sign.
-#[derive(Drop)]
+#[derive(Clone, Copy)]
 pub enum Coordinate {
     Bad(Fault),
     Good(i32, usize),

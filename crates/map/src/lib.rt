@@ -1,5 +1,7 @@
 // The map (document 01, "The map" and refusals 1 to 5). The ways in are check, look_up and rows_of; the modules fields, parts and
 // rows serve the crates above.
+#![tactic(auto)]
+
 pub mod fields;
 pub mod parts;
 pub mod rows;
@@ -12,7 +14,7 @@ use parts::Sought;
 use units::People;
 
 // Why a map is refused (document 01, "Refused by the input").
-#[derive(Drop)]
+#[derive(Clone, Copy)]
 pub enum Fault {
     // 1: the map ends before or inside a field.
     Ends,
@@ -27,14 +29,14 @@ pub enum Fault {
 }
 
 // Whether a map is accepted.
-#[derive(Drop)]
+#[derive(Clone, Copy)]
 pub enum Checked {
     Accepted,
     Refused(Fault),
 }
 
 // The head of an area, and where its rows stand: the bytes from start to before end.
-#[derive(Drop)]
+#[derive(Clone, Copy)]
 pub struct Area {
     pub number: u16,
     pub weight: u32,
@@ -46,7 +48,7 @@ pub struct Area {
 }
 
 // The area with a number.
-#[derive(Drop)]
+#[derive(Clone, Copy)]
 pub enum Found {
     Refused(Fault),
     Lacking,
@@ -54,7 +56,7 @@ pub enum Found {
 }
 
 // A cell: its people, and the point that stands for them in hundredths of an arc second.
-#[derive(Drop)]
+#[derive(Clone, Copy)]
 pub struct Cell {
     pub people: u32,
     pub latitude: i32,

@@ -14,14 +14,14 @@ use super::{Area, Cell, Fault, fields, rows};
 use units::{Cells, MhzPops, People};
 
 // A cell that was read, with the position after it.
-#[derive(Drop)]
+#[derive(Clone, Copy)]
 pub enum CellRead {
     Bad(Fault),
     Good(Cell, usize),
 }
 
 // What stands at a place, with the position after it.
-#[derive(Drop)]
+#[derive(Clone, Copy)]
 pub enum PlaceRead {
     Bad(Fault),
     Gap(usize),
@@ -29,7 +29,7 @@ pub enum PlaceRead {
 }
 
 // What one walk over cells counts: their people and their number, and of those under boxes the MHz-pops and the number, once for each box.
-#[derive(Drop)]
+#[derive(Clone, Copy)]
 pub struct Counts {
     pub people: People,
     pub cells: Cells,
@@ -38,14 +38,14 @@ pub struct Counts {
 }
 
 // What is counted over what was read, with the position after it.
-#[derive(Drop)]
+#[derive(Clone, Copy)]
 pub enum Tally {
     Bad(Fault),
     Good(Counts, usize),
 }
 
 // What stands before an area's rows.
-#[derive(Drop)]
+#[derive(Clone, Copy)]
 pub struct Head {
     pub number: u16,
     pub weight: u32,
@@ -54,28 +54,28 @@ pub struct Head {
 }
 
 // A head that was read, with the position after it.
-#[derive(Drop)]
+#[derive(Clone, Copy)]
 pub enum HeadRead {
     Bad(Fault),
     Good(Head, usize),
 }
 
 // An area with what one walk over its cells counted.
-#[derive(Drop)]
+#[derive(Clone, Copy)]
 pub struct CountedArea {
     pub area: Area,
     pub counts: Counts,
 }
 
 // An area that was read; the position after it is its end.
-#[derive(Drop)]
+#[derive(Clone, Copy)]
 pub enum AreaRead {
     Bad(Fault),
     Good(CountedArea),
 }
 
 // The area with a number, counted under boxes.
-#[derive(Drop)]
+#[derive(Clone, Copy)]
 pub enum Sought {
     Refused(Fault),
     Lacking,

@@ -7,7 +7,7 @@ ghost use Rattle.map.specs.Cells.{bits_from, cell_within, cells_from, RowSummed,
 use super::fields;
 
 // What is told of a row's cells: whether each is within its limits, and if so their people.
-#[derive(Drop)]
+#[derive(Clone, Copy)]
 pub struct RowSum {
     pub fine: bool,
     pub people: u32,

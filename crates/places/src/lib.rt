@@ -1,4 +1,6 @@
 // An area's cells by place: people, cells and covered cells, decoded once from the rows of a map.
+#![tactic(auto)]
+
 ghost use Rattle.std.specs.Prelude.{◌≡◌, ◌*◌, ◌≤◌, ltb, length};
 ghost use Rattle.lists.specs.Sums.{flag};
 ghost use Rattle.map.specs.Format.{read_place, read_row, read_rows};
@@ -8,7 +10,7 @@ ghost use Rattle.places.specs.Rows.{PlaceShown, RowLaid};
 use map::parts::PlaceRead;
 
 // What is laid for a place, and the position after what stands there.
-#[derive(Drop)]
+#[derive(Clone, Copy)]
 struct Shown {
     people: u32,
     cell: u8,

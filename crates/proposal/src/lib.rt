@@ -1,5 +1,7 @@
 // Document 01, "The proposal": which partial areas a carrier gets whole, and the one that it gets in part. The way in is propose; the
 // module parts serves the crates above.
+#![tactic(auto)]
+
 pub mod parts;
 
 ghost use Rattle.std.specs.Prelude.{◌≡◌};
@@ -14,7 +16,7 @@ use register::Register;
 use units::{Cells, Weighted};
 
 // What an area gets: nothing, whole, rounded up, or a share with its amount.
-#[derive(Drop)]
+#[derive(Clone, Copy)]
 pub enum Gets {
     Nothing,
     Whole,
@@ -23,7 +25,7 @@ pub enum Gets {
 }
 
 // An area of the map: its number, its whole blocks, its sum of cells (document 02, Paper 1) and what it gets.
-#[derive(Drop)]
+#[derive(Clone, Copy)]
 pub struct AreaAnswer {
     pub number: u16,
     pub blocks: u64,
@@ -32,7 +34,7 @@ pub struct AreaAnswer {
 }
 
 // Why there is no proposal, or its kind.
-#[derive(Drop)]
+#[derive(Clone, Copy)]
 pub enum Outcome {
     // 1 to 5: the map is refused.
     Refused(Fault),
@@ -47,7 +49,7 @@ pub enum Outcome {
 }
 
 // The answer: T, white space, the tied count and the map's areas, which are the first count of areas. A refusal has nothing of these.
-#[derive(Drop)]
+#[derive(Clone, Copy)]
 pub struct Proposal {
     pub outcome: Outcome,
     pub target: Weighted,

@@ -13,7 +13,7 @@ use units::Weighted;
 
 // The partial areas: the first count of sizes and weights, and the sum of their values. Sizes are weighted MHz-pops; they are plain
 // numbers because the search is lent slices of them.
-#[derive(Drop)]
+#[derive(Clone, Copy)]
 pub struct Partials {
     pub count: usize,
     pub target: Weighted,

@@ -1,6 +1,8 @@
 // Document 02, Paper 2: coverage kept beside the register. A record keeps, for each area of one loaded map, what the map says of it and the
 // sums over the licences in force; a grant adds what its ground covers and a cancellation subtracts what it strikes, so that a proposal
 // from the record reads no map. The ways in are Record::load, grant, cancel and propose.
+#![tactic(auto)]
+
 ghost use Rattle.std.specs.Prelude.{◌≡◌, cond, map as each, ◌≤◌, eqb, take};
 ghost use Rattle.map.specs.Format.{read_map, within};
 ghost use Rattle.map.specs.Answers.{checked_number};
@@ -18,7 +20,7 @@ use units::{Cells, MhzPops, People};
 // What a record keeps of an area: its number, weight and population as the map had them, and its sums over the licences in force, c in
 // MHz-pops and cells. There is no padding.
 #[repr(C)]
-#[derive(Drop)]
+#[derive(Clone, Copy)]
 pub struct Kept {
     pub number: u32,
     pub weight: u32,
@@ -29,35 +31,35 @@ pub struct Kept {
 
 // The record of a map: the first count of areas, and blank entries past them. There is no padding.
 #[repr(C)]
-#[derive(Drop)]
+#[derive(Clone, Copy)]
 pub struct Record {
     pub count: u64,
     pub areas: [Kept; Record::AREAS],
 }
 
 // A record just loaded, or why the map is refused: then the record is blank.
-#[derive(Drop)]
+#[derive(Clone, Copy)]
 pub struct Loaded {
     pub kept: Record,
     pub checked: Checked,
 }
 
 // What a grant with a record answers: refused by the map, 1 to 5, or as without a record.
-#[derive(Drop)]
+#[derive(Clone, Copy)]
 pub enum KeptGrantAnswer {
     Refused(Fault),
     Answered(GrantAnswer),
 }
 
 // What a cancellation with a record answers.
-#[derive(Drop)]
+#[derive(Clone, Copy)]
 pub enum KeptCancelAnswer {
     Refused(Fault),
     Answered(CancelAnswer),
 }
 
 // A grant with a record hands back the next register, the next record and its answer.
-#[derive(Drop)]
+#[derive(Clone, Copy)]
 pub struct KeptGranted {
     pub next: Register,
     pub kept: Record,
@@ -65,7 +67,7 @@ pub struct KeptGranted {
 }
 
 // So does a cancellation.
-#[derive(Drop)]
+#[derive(Clone, Copy)]
 pub struct KeptCancelled {
     pub next: Register,
     pub kept: Record,
@@ -73,7 +75,7 @@ pub struct KeptCancelled {
 }
 
 // The sums of the area with a number, or that no area has it.
-#[derive(Drop)]
+#[derive(Clone, Copy)]
 enum AreaSums {
     Lacking,
     At(CoverageSums),

@@ -1,5 +1,7 @@
 // Document 01, "The register": the licences in force, and what a grant and a cancellation do to them; document 02, Paper 4: their
 // widths. naming and boxes hand out what the crates above count people by, and struck what they subtract.
+#![tactic(auto)]
+
 ghost use Rattle.std.specs.Prelude.{◌≡◌, cond, not, leb, eqb, ◌-◌, ◌≤◌};
 ghost use Rattle.lists.specs.Sums.{flag};
 ghost use Rattle.register.specs.Licences.{full_width, full_licence, box_formed, ground_formed, width_formed, well_formed};
@@ -10,7 +12,7 @@ ghost use Rattle.register.specs.Promises.{EmptyDone, GrantDone, CancelDone, Gran
 ghost use Rattle.register.specs.Grounds.{names, NamingDone, has_box, place_box, LastBox, EdgesDone, WidthsDone, BoxesDone};
 
 // A box of latitudes and longitudes, in hundredths of an arc second. Degrees south and west are negative.
-#[derive(Drop)]
+#[derive(Clone, Copy)]
 pub struct GeoBox {
     pub south: i32,
     pub north: i32,
@@ -19,14 +21,14 @@ pub struct GeoBox {
 }
 
 // The ground of a licence: a PEA by its number, or a box.
-#[derive(Drop)]
+#[derive(Clone, Copy)]
 pub enum Ground {
     Area(u16),
     Box(GeoBox),
 }
 
 // A licence, as its grant gives it. The width is in MHz.
-#[derive(Drop)]
+#[derive(Clone, Copy)]
 pub struct Licence {
     pub call_sign: u32,
     pub ground: Ground,
@@ -37,7 +39,7 @@ pub struct Licence {
 // kind 1 a box; any other kind is an ill-formed ground, which covers nothing. A place keeps how many MHz its licence is narrower than 50,
 // so one that was kept before licences had widths, with 0 there, is 50 MHz wide as it was. There is no padding.
 #[repr(C)]
-#[derive(Drop)]
+#[derive(Clone, Copy)]
 pub struct FlatLicence {
     pub call_sign: u32,
     pub area: u16,
@@ -51,13 +53,13 @@ pub struct FlatLicence {
 
 // A register has a place for each licence in force. A place with call sign 0 is free.
 #[repr(C)]
-#[derive(Drop)]
+#[derive(Clone, Copy)]
 pub struct Register {
     places: [FlatLicence; Register::LIMIT],
 }
 
 // What a grant answers: accepted, or refused by 6, 9 or 10.
-#[derive(Drop)]
+#[derive(Clone, Copy)]
 pub enum GrantAnswer {
     Accepted,
     IllFormed,
@@ -66,7 +68,7 @@ pub enum GrantAnswer {
 }
 
 // What a cancellation answers: accepted, or refused by 11.
-#[derive(Drop)]
+#[derive(Clone, Copy)]
 pub enum CancelAnswer {
     Accepted,
     NotInForce,
@@ -74,28 +76,28 @@ pub enum CancelAnswer {
 
 // What a grant or a cancellation hands back in plain numbers: the next register, and document 01's number of the refusal, 0 for none.
 #[repr(C)]
-#[derive(Drop)]
+#[derive(Clone, Copy)]
 pub struct Step {
     pub next: Register,
     pub refusal: u32,
 }
 
 // A grant hands back the next register and its answer.
-#[derive(Drop)]
+#[derive(Clone, Copy)]
 pub struct Granted {
     pub next: Register,
     pub answer: GrantAnswer,
 }
 
 // A cancellation hands back the next register and its answer.
-#[derive(Drop)]
+#[derive(Clone, Copy)]
 pub struct Cancelled {
     pub next: Register,
     pub answer: CancelAnswer,
 }
 
 // How many licences in force have an area as their ground, and their widths added.
-#[derive(Drop)]
+#[derive(Clone, Copy)]
 pub struct Naming {
     pub licences: u32,
     pub width: u32,
@@ -104,7 +106,7 @@ pub struct Naming {
 // The boxes of the licences in force, one for each of the first count places, a multiple of 8: the souths at 0, the norths at count,
 // the wests at 2 * count and the easts at 3 * count. A place without a box in force has one with all edges 0, which covers nothing.
 // The widths are those of what stands at the first count places, whether it is in force or not.
-#[derive(Drop)]
+#[derive(Clone, Copy)]
 pub struct Boxes {
     pub count: usize,
     pub edges: [i32; 256],

@@ -1,5 +1,7 @@
 // Document 01, "The footprint": the ring of a set of cells, marked with 2 in the mask that shows the set. Every byte is written by a
 // row writer, which is lent the mask's part from the row's first place on. The functions serve the crates above.
+#![tactic(auto)]
+
 ghost use Rattle.std.specs.Prelude.{◌≡◌, true, false, cond, not, ◌&&◌, ◌||◌, ℕ, ◌+◌, ◌-◌, ◌*◌, ◌≤◌, ◌<◌, length, get_or, eqb};
 ghost use Rattle.lists.specs.Sums.{some_below};
 ghost use Rattle.ring.specs.Ring.{above, below, some_side, all_sides, edge, ring};

@@ -1,4 +1,6 @@
 // Document 01, "The footprint": the footprint of a partial area, made in the mask that shows the set F. It serves the crate above.
+#![tactic(auto)]
+
 ghost use Rattle.std.specs.Prelude.{◌≡◌, true, false, cond, ℕ, ◌+◌, ◌-◌, ◌*◌, ◌/◌, ◌≤◌, ◌<◌, eqb, length, get_or};
 ghost use Rattle.lists.specs.Sums.{flag};
 ghost use Rattle.ring.specs.Ring.{shown, fits};
@@ -9,7 +11,7 @@ ghost use Rattle.rounds.specs.Code.{sizes_fit, some_above, Within, Countable, pe
 use units::{People, Weighted};
 
 // What becomes of a footprint.
-#[derive(Drop)]
+#[derive(Clone, Copy)]
 pub enum Answer {
     // It is made.
     Done,
@@ -21,7 +23,7 @@ pub enum Answer {
 
 // What a round comes to: it is made, or its ring is the last ring, or neither where V equals the share. With it the people of the next set,
 // of the outer set, or of the set.
-#[derive(Drop)]
+#[derive(Clone, Copy)]
 struct Reached {
     made: bool,
     last: bool,

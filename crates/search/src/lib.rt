@@ -4,6 +4,8 @@
 // in a covered form; areas are given as two slices, their sizes M and their weights, ascending.
 // The search keeps an entry for each partial area, and entry 0 for exact choices: the least white space, and at that white space
 // the smallest set number. With one partial area rank goes by white space alone, so the rest is decided on the entries afterwards.
+#![tactic(auto)]
+
 ghost use Rattle.std.specs.Prelude.{◌≡◌, true, cond, ◌+◌, ◌≤◌, ◌<◌, length, take};
 ghost use Rattle.search.specs.Search.{as_kept, as_held, lesser, leaf_held, within_held, searched, Room, Ready};
 ghost use Rattle.search.specs.Choice.{rank_of, ahead, largest_size, largest_weight};
@@ -11,7 +13,7 @@ ghost use Rattle.search.specs.Proposal.{start, present, rank_at, clear, best_at,
 ghost use Rattle.search.specs.Proposal.{Ranked, Limits, Tables, Tied, at_most, in_limits, no_answer};
 
 // How a choice ranks: far is 0 if it is all-whole, else 1; its white space; the weight of its partial area.
-#[derive(Drop)]
+#[derive(Clone, Copy)]
 pub struct Rank {
     pub far: u64,
     pub white: u64,
@@ -209,7 +211,7 @@ fn best_at(sizes: &[u64], weights: &[u64], white: &[u64], t: usize) -> bool
 }
 
 // The tied areas by their entries, ascending: the first `count` of `entries`.
-#[derive(Drop)]
+#[derive(Clone, Copy)]
 pub struct Ties {
     pub count: usize,
     pub entries: [usize; 20],
@@ -264,7 +266,7 @@ fn pick(t: Ties, draw: u32) -> usize
 
 // The answer of the search: kind, white space and tied count of document 01's answer; the entry of the partial area, 0 if exact;
 // and the set number of the whole areas.
-#[derive(Drop)]
+#[derive(Clone, Copy)]
 pub struct Answer {
     pub kind: u64,
     pub white: u64,

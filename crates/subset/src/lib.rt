@@ -1,5 +1,7 @@
 // The cells that are left out of a last ring (document 01, "The footprint"): the subset of greatest total within the slack, then of
 // smallest set number. The rule and its laws are for lists of any length; the code finds its set by a table over sums, lent by the caller.
+#![tactic(auto)]
+
 ghost use Rattle.std.specs.Prelude.{◌≡◌, true, cond, ℕ, ◌+◌, min, ◌≤◌, ◌<◌, length, get_or, eqb};
 ghost use Rattle.subset.specs.Marked.{roomy, LeavesOut};
 ghost use Rattle.subset.specs.Table.{member, chosen, weight, renewed, Room, Readable, Filled, Added, Enough, Topmost, Struck};

@@ -2,27 +2,29 @@
 // and 4). Sums and tests take one of them with itself, so no sum mixes them. The bridges are People::mhz_pops, MHz × people;
 // MhzPops::weighted, weight × MHz-pops; and People::weighted, both at once.
 // Coordinates are plain i32, in hundredths of an arc second.
+#![tactic(auto)]
+
 ghost use Rattle.std.specs.Prelude.{◌≡◌, ◌+◌, ◌-◌, ◌*◌, leb};
 ghost use Rattle.units.specs.Sums.{capped};
 ghost use Rattle.units.specs.Coordinates.{within_z};
 
 // A count of people.
 #[repr(C)]
-#[derive(Drop)]
+#[derive(Clone, Copy)]
 pub struct People(pub u64);
 
 // A count of cells.
 #[repr(C)]
-#[derive(Drop)]
+#[derive(Clone, Copy)]
 pub struct Cells(pub u64);
 
 // An amount of MHz-pops: MHz × people.
 #[repr(C)]
-#[derive(Drop)]
+#[derive(Clone, Copy)]
 pub struct MhzPops(pub u64);
 
 // An amount of weighted MHz-pops: MHz × weight × people.
-#[derive(Drop)]
+#[derive(Clone, Copy)]
 pub struct Weighted(pub u64);
 
 // The sum of two counts, which stops at the largest u64.

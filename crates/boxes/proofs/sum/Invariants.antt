@@ -1,0 +1,16 @@
+-- `boxes::sum`: at cell k, the people before it are summed. Assumes nothing.
+use Prim.Native.Nat.{ℕ, ◌+◌, ◌*◌, ◌-◌, ◌≤◌}
+use mathlib.Core.Path.{◌≡◌, refl, ap, ◌∙◌}
+use native.Mathlib.Omega.{arith}
+use lib.ListN.{get_or}
+use borrow.Author.Rules.{rules}
+use Rattle.lists.specs.Sums.{sum_below, sum_to}
+use Rattle.lists.proofs.BelowLaws.{sum-next}
+use Rattle.boxes.proofs.sum.Given as goal
+
+abbrev pub invariant-loop-k : goal.invariant-loop-k
+invariant-loop-k l =
+    (l.k ≤ l.n) × (l.s ≤ 1_000_000 * l.k) × (l.s ≡ sum_to (λ j. get_or l.people j 0) l.k)
+
+abbrev pub decreases-loop-k : goal.decreases-loop-k
+decreases-loop-k l = l.n - l.k

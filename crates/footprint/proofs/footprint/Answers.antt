@@ -1,0 +1,63 @@
+-- `footprint::footprint`: the holdings of the map, the proposal from them and its partial area lead to the footprint. Assumes nothing.
+use mathlib.Core.Path.{refl, sym, subst}
+use lib.ListN.{length}
+use Rattle.map.specs.Answers.{fault_number}
+use Rattle.register.specs.Licences.{in_force}
+use Rattle.proposal.proofs.MapLaws.{bounded}
+use Rattle.footprint.specs.declared.FootprintAnswer.TheVariants as answered
+use Rattle.footprint.specs.Footprint.{Footprint}
+use Rattle.footprint.specs.Promises.{FootprintDone}
+use Rattle.footprint.proofs.WayLaws.{untouched, readable, ComesOf, map-refused, map-accepted}
+use borrow.Author.Rules.{rules}
+use Rattle.footprint.proofs.footprint.Goals as goal
+
+pub propose_from-p-requires : goal.propose_from-p-requires
+propose_from-p-requires c =
+    let a = c.args in
+    bounded a.map.now (in_force a.register.places) c.holdings_in-held.result c.holdings_in-held.ensures
+    c.in-Accepted.is
+
+-- what comes of the partial area
+part-comes : (c : goal.After-partial_area) →
+    let a = c.args in
+    ComesOf a.map.now (in_force a.register.places) a.draw c.partial_area.result
+part-comes c =
+    let a = c.args in
+    subst (ComesOf a.map.now (in_force a.register.places) a.draw) (sym c.partial_area.ensures)
+    (map-accepted a.map.now (in_force a.register.places) c.holdings_in-held.result c.holdings_in-held.ensures a.draw
+    c.in-Accepted.is c.propose_from-p.result c.propose_from-p.ensures)
+
+pub outline-requires : goal.outline-requires
+outline-requires c =
+    let a = c.args in
+    let g = subst (ComesOf a.map.now (in_force a.register.places) a.draw) c.in-Found.is (part-comes c.before.before.before.before.before) in
+    readable g.holds g.handed
+
+pub returns-in-Refused : goal.returns-in-Refused
+returns-in-Refused c =
+    let a = c.args in
+    let f = c.checked-1.given in
+    let mask = a.mask.now in
+    let table = a.table.now in
+    untouched (fault_number f.0.0) (answered.Refused f.0.0) mask table _ refl
+    (map-refused a.map.now (in_force a.register.places) c.holdings_in-held.result c.holdings_in-held.ensures a.draw
+    f.0.0 f.1 (length mask) (length table))
+
+pub returns-in-Lacking : goal.returns-in-Lacking
+returns-in-Lacking c =
+    let a = c.args in
+    let mask = a.mask.now in
+    let table = a.table.now in
+    let g = subst (ComesOf a.map.now (in_force a.register.places) a.draw) c.in-Lacking.is (part-comes c.before.before.before) in
+    untouched g.number c.in-Lacking.answer mask table _ g.told (g.comes (length mask) (length table))
+
+pub returns-in-Found : goal.returns-in-Found
+returns-in-Found c =
+    let a = c.args in
+    let mask = a.mask.now in
+    let table = a.table.now in
+    let g = subst (ComesOf a.map.now (in_force a.register.places) a.draw) c.in-Found.is (part-comes c.before.before.before.before.before.before.before.before.before.before) in
+    let out = c.outline in
+    subst (λ (o : Footprint). FootprintDone o out.result mask out.new.1.1.1.1.0 table out.new.1.1.1.1.1.0)
+    (sym (g.comes (length mask) (length table)))
+    (out.ensures g.area g.handed g.holds g.fits)

@@ -1,0 +1,6 @@
+-- `proposal::parts::number_after`: by the test. Assumes nothing.
+use borrow.Author.Rules.{rules}
+use Rattle.proposal.proofs.parts.number_after.Goals as goal
+
+pub returns-then-partial : goal.returns-then-partial
+returns-then-partial c = rw c.if-partial.true

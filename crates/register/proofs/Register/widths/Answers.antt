@@ -1,0 +1,36 @@
+-- `register::Register::widths` meets its contract: an array of zeros, rewritten in place from its front. Assumes nothing.
+use Prim.Native.Nat.{ℕ, ◌-◌, ◌≤◌}
+use mathlib.Core.Path.{◌∙◌}
+use mathlib.Core.List.{List}
+use native.Mathlib.Omega.{arith}
+use lib.ListN.{get_or, replicate, length-replicate}
+use borrow.Author.Rules.{rules}
+use Rattle.lists.proofs.InPlace.{Rewritten, starts, turns, zeros-at}
+use Rattle.register.specs.declared.FlatLicence.{FlatLicence}
+use Rattle.register.specs.Licences.{licence_of, free_place}
+use Rattle.register.proofs.Register.widths.Goals as goal
+
+-- the width at a place, whatever stood there
+abbrev width_at : List FlatLicence → ℕ → ℕ → ℕ
+width_at ps i _ = (licence_of (get_or ps i free_place)).width
+
+pub loop-i-init : goal.loop-i-init
+loop-i-init c = (omega arith, starts (width_at c.args.self.places) (replicate 64 0))
+
+pub loop-i-preserved : goal.loop-i-preserved
+loop-i-preserved c =
+    let b = c.loop-i-test.true in
+    let few = c.requires in
+    let n = length-replicate {A = ℕ} 64 0 in
+    (omega arith, turns c.loop-i.invariant.1 (omega arith) c.width.ensures)
+
+pub returns : goal.returns
+returns c =
+    let w = c.loop-i.invariant.1 in
+    let all = c.loop-i-test.false in
+    let within = c.loop-i.invariant.0 in
+    record {
+      size = w.kept ∙ length-replicate {A = ℕ} 64 0;
+      each = λ i b. w.done i (omega arith);
+      rest = λ i b. w.rest i (omega arith) ∙ zeros-at 64 i;
+    }

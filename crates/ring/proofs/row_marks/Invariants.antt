@@ -1,0 +1,17 @@
+-- `ring::row_marks`: each turn puts 1 where the place is to be marked. Assumes nothing.
+use mathlib.Core.Path.{sym, ◌∙◌}
+use mathlib.Core.Logic.{⊎_elim}
+use Prim.Native.Nat.{◌+◌, ◌-◌, ◌≤◌}
+use native.Mathlib.Omega.{arith}
+use borrow.Author.Rules.{rules}
+use Rattle.ring.specs.Ring.{Places, seen, shown}
+use Rattle.ring.specs.Code.{to_mark}
+use Rattle.ring.proofs.MarkLaws.{RowRead, read-start, read-yes, read_no, read-end}
+use Rattle.ring.proofs.row_marks.Given as goal
+
+abbrev pub invariant-loop-c : goal.invariant-loop-c
+invariant-loop-c l =
+    (l.c ≤ l.columns) × RowRead (λ j. to_mark l.grow l.near (shown l.cells) (seen l.grow l.mask) l.n l.columns (l.at + j)) l.marks l.c
+
+abbrev pub decreases-loop-c : goal.decreases-loop-c
+decreases-loop-c l = l.columns - l.c

@@ -1,0 +1,62 @@
+-- `ring::some_side`: the sides are tested one after another, left and right by the column. Assumes nothing.
+use mathlib.Core.Path.{sym, ◌∙◌}
+use mathlib.Core.Bool.{true}
+use Prim.Native.Nat.{◌+◌}
+use native.Mathlib.Omega.{arith}
+use borrow.Author.Rules.{rules}
+use Rattle.ring.specs.Ring.{seen}
+use Rattle.ring.proofs.PlaceLaws.{row_before, row-after, left_at, right-at, side-above, side-below, side_left, side_right}
+use Rattle.ring.proofs.some_side.Goals as goal
+
+pub is_above-requires : goal.is_above-requires
+is_above-requires c =
+    let row = c.requires.0 in
+    let low = c.requires.1 in (
+      omega (arith, row.long, row.room),
+      λ e. omega arith,
+      λ first. omega (arith, row_before c.args.columns c.args.at row.start first),
+    )
+
+pub returns-then-is_above : goal.returns-then-is_above
+returns-then-is_above c =
+    let a = c.args in
+    side-above (seen true a.mask.now) a.n a.columns (a.at + a.c)
+    (sym c.is_above.ensures ∙ c.if-is_above.true)
+
+pub is_below-requires : goal.is_below-requires
+is_below-requires c =
+    let row = c.requires.0 in
+    let low = c.requires.1 in (
+      (row.long, row.few, row.room),
+      (
+        λ e. omega arith,
+        λ last. omega (arith, row-after c.args.n c.args.columns c.args.at row.whole row.start row.room last),
+      ),
+    )
+
+pub returns-then-is_below : goal.returns-then-is_below
+returns-then-is_below c =
+    let a = c.args in
+    side-below (seen true a.mask.now) a.n a.columns (a.at + a.c)
+    (sym c.is_above.ensures ∙ c.if-is_above.false)
+    (sym c.is_below.ensures ∙ c.if-is_below.true)
+
+pub returns-then-is_left : goal.returns-then-is_left
+returns-then-is_left c =
+    let a = c.args in
+    side_left (seen true a.mask.now) a.n a.columns (a.at + a.c)
+    (sym c.is_above.ensures ∙ c.if-is_above.false)
+    (sym c.is_below.ensures ∙ c.if-is_below.false)
+    (sym (left_at a.columns a.at c.requires.0.start (seen true a.mask.now) a.c c.requires.1)
+    ∙ sym c.is_left.ensures ∙ c.if-is_left.true)
+
+pub returns : goal.returns
+returns c =
+    let a = c.args in
+    c.is_right.ensures
+    ∙ right-at a.columns a.at c.requires.0.start (seen true a.mask.now) a.c c.requires.1
+    ∙ side_right (seen true a.mask.now) a.n a.columns (a.at + a.c)
+    (sym c.is_above.ensures ∙ c.if-is_above.false)
+    (sym c.is_below.ensures ∙ c.if-is_below.false)
+    (sym (left_at a.columns a.at c.requires.0.start (seen true a.mask.now) a.c c.requires.1)
+    ∙ sym c.is_left.ensures ∙ c.if-is_left.false)

@@ -1,0 +1,19 @@
+-- `rounds::all_rounds`: the invariant is `Going`, and each round that is made leaves less (`falls`). Assumes nothing.
+use Prim.Native.Nat.{◌*◌}
+use borrow.Author.Rules.{rules}
+use borrow.Author.Tests.{not-true, not-false}
+use Rattle.ring.specs.Ring.{shown}
+use Rattle.rounds.specs.Footprint.{PartArea}
+use Rattle.rounds.specs.Promises.{area_of}
+use Rattle.rounds.specs.Code.{people_with}
+use Rattle.rounds.proofs.Rounds.{remaining}
+use Rattle.rounds.proofs.LimitLaws.{mask-sizes}
+use Rattle.rounds.proofs.RoundLaws.{Going, going-starts, going-within, going_less, going-turns, going-ends}
+use Rattle.rounds.proofs.all_rounds.Given as goal
+
+abbrev pub invariant-loop-share : goal.invariant-loop-share
+invariant-loop-share l =
+    Going (area_of l.rows l.columns l.weight l.cells l.people) l.share.0 l.grow l.initial.mask l.mask l.sum.0
+
+abbrev pub decreases-loop-share : goal.decreases-loop-share
+decreases-loop-share l = remaining l.grow (shown l.mask) (l.rows * l.columns)

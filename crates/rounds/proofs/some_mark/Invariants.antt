@@ -1,0 +1,11 @@
+-- `rounds::some_mark`: no number before i is above the limit, and i grows. Assumes nothing.
+use Prim.Native.Nat.{◌-◌}
+use borrow.Author.Rules.{rules}
+use Rattle.rounds.proofs.LimitLaws.{Passed, passed-starts, passed-turns, passed-found, passed-ends}
+use Rattle.rounds.proofs.some_mark.Given as goal
+
+abbrev pub invariant-loop-i : goal.invariant-loop-i
+invariant-loop-i l = Passed 1 l.mask l.n l.i
+
+abbrev pub decreases-loop-i : goal.decreases-loop-i
+decreases-loop-i l = l.n - l.i

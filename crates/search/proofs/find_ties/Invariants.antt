@@ -1,0 +1,13 @@
+-- `search::find_ties`: after i areas the places written are the tied entries up to i; the areas not seen get fewer. Assumes nothing.
+use Prim.Native.Nat.{◌-◌}
+use mathlib.Core.Path.{refl, sym, ◌∙◌}
+use native.Mathlib.Omega.{arith}
+use lib.ListN.{length}
+use Rattle.search.proofs.Select.{Seen, seen-starts, seen-ends, tied-skip, tied-write}
+use Rattle.search.proofs.find_ties.Given as goal
+
+abbrev pub invariant-loop-i : goal.invariant-loop-i
+invariant-loop-i l = Seen l.sizes l.weights l.white l.count l.i l.entries
+
+abbrev pub decreases-loop-i : goal.decreases-loop-i
+decreases-loop-i l = length l.sizes - l.i

@@ -1,0 +1,10 @@
+-- `subset::add_place`: the sums from d + p on are renewed, and d falls. Assumes nothing.
+use Rattle.subset.proofs.FillLaws.{Adding, adding-starts, adding-turns, adding-ends, adding-past, adding-none}
+use borrow.Author.Rules.{rules}
+use Rattle.subset.proofs.add_place.Given as goal
+
+abbrev pub invariant-loop-d : goal.invariant-loop-d
+invariant-loop-d l = Adding 65535 l.top l.p l.place l.initial.table l.table l.d
+
+abbrev pub decreases-loop-d : goal.decreases-loop-d
+decreases-loop-d l = l.d
