@@ -1,6 +1,6 @@
 -- `search::visit`: its three branches are the definition's. Assumes nothing.
 use Prim.Native.Nat.{ℕ, ◌*◌, ◌<◌}
-use mathlib.Core.Path.{◌≡◌, refl, ap, ◌∙◌}
+use mathlib.Core.Path.{◌≡◌, refl, ◌∙◌}
 use mathlib.Core.Logic.{inl, inr}
 use native.Mathlib.Omega.{arith}
 use lib.ListN.{length}
@@ -59,11 +59,11 @@ returns-after-m-left t c =
     let l = short p c.if-at-sizes.false in
     let j = c.if-m-left in
     let whole : Whole a.sizes.now a.at a.left 0 a.set a.bit (as_kept c.visit.new.white c.visit.new.least) (as_kept j.white j.least) =
-        elim j.branch [
-          then-m-left w ↦
-            inl (w.if-m-left.true, (λ i. as_kept (w.white-is i) (w.least-is i)) ∙ w.visit-then-m-left.ensures)
-          | else-m-left w ↦ inr (w.if-m-left.false, λ i. as_kept (w.white-is i) (w.least-is i))
-        ] in
+    elim j.branch [
+      | then-m-left w ↦
+          inl (w.if-m-left.true, (λ i. as_kept (w.white-is i) (w.least-is i)) ∙ w.visit-then-m-left.ensures)
+      | else-m-left w ↦ inr (w.if-m-left.false, λ i. as_kept (w.white-is i) (w.least-is i))
+    ] in
     search-next a.sizes.now a.at a.left 0 a.set a.bit _ _ _ _ l c.visit.ensures whole
     (inl (
       refl,
