@@ -8,7 +8,7 @@ use lib.Dec.{ltb, leb, eqb}
 use lib.ListN.{length, get_or, take, drop, length-map, drop_of_length-le}
 use borrow.Author.Tests.{eqb-true, eqb-false, eq-eqb, ne_eqb, leb-true, lt-ltb, le-ltb}
 use Rattle.lists.specs.Sums.{All}
-use Rattle.lists.proofs.Tests.{by-test, not-both, first_of, second-of}
+use Rattle.lists.proofs.Tests.{by-test, first_of, second-of}
 use Rattle.lists.proofs.SumLaws.{drop-next}
 use Rattle.map.specs.Format.{within}
 use Rattle.map.specs.Answers.{fault_number}

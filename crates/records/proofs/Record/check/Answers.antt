@@ -1,5 +1,5 @@
 -- `records::Record::check`: the count, then one area a turn. Assumes nothing.
-use Rattle.std.proofs.Common.{◌≡◌, ℕ, ◌≤◌, Bool, true, List, length, take, leb, sym, ap, ◌∙◌, arith}
+use Rattle.std.proofs.Common.{◌≡◌, ℕ, true, List, length, take, leb, sym, ap, ◌∙◌, arith}
 use lib.Seq.{length-take-le, get_or-take}
 use borrow.Author.Tests.{leb-true}
 use Rattle.lists.proofs.Tests.{second-of}
