@@ -3,6 +3,7 @@ use Prim.Native.Nat.{ℕ, ◌*◌}
 use mathlib.Core.Path.{◌≡◌, refl, sym, ap, ◌∙◌}
 use mathlib.Core.Bool.{cond}
 use mathlib.Core.List.{List}
+use native.Mathlib.Omega.{arith}
 use lib.Dec.{eqb}
 use lib.ListN.{get_or}
 use Rattle.lists.specs.Sums.{sum_below}
@@ -33,7 +34,7 @@ value_of-v-requires c =
     let f = shown a.mask.now in
     let w = c.requires.within in
     let p = counted a.mask.now a.people.now (places m) 1 a.sum.0 c.requires.sum_value in
-    (rw p (people-most w f), w.light)
+    (rw p (people-most w f), omega (arith, w.light))
 
 pub returns-then-v-share : goal.returns-then-v-share
 returns-then-v-share c =
