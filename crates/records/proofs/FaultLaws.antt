@@ -142,13 +142,6 @@ record-bounded r hs size e z =
 
 -- ---- the fault of an area, by its tests in turn
 
--- a test that the code makes, failed or passed
-pub fails : {a b : Bool} → a ≡ b → not a ≡ true → b ≡ false
-fails {a} e t = by-test a (λ p. not-both t (ap not p)) (λ p. sym e ∙ p)
-
-pub passes : {a b : Bool} → a ≡ b → not a ≡ false → b ≡ true
-passes {a} e t = by-test a (λ p. sym e ∙ p) (λ p. not-both (ap not p) t)
-
 module _ (before : ℕ) (k : Kept) where
   pub fault-number : within 1 416 k.number ≡ false → 2 ≡ area_fault before k
   unfolding area_fault

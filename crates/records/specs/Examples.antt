@@ -4,6 +4,7 @@ use Rattle.std.specs.Prelude.{ℕ, ◌-◌, ◌≡◌, refl, Bool, true, false, 
 use Rattle.units.specs.Sums.{largest, capped}
 use Rattle.map.specs.Format.{Place, cell, Area}
 use Rattle.map.specs.Answers.{locate}
+use Rattle.register.specs.declared.Ground.{Ground}
 use Rattle.register.specs.declared.Ground.TheVariants as ground
 use Rattle.register.specs.declared.Licence.{Licence}
 use Rattle.records.specs.declared.Kept.{Kept}
@@ -44,7 +45,7 @@ in_seven = record {
 }
 
 abbrev all_nine : Licence
-all_nine = record { call_sign = 2; ground = ground.Area 9; width = 20 }
+all_nine = let ground : Ground = ground.Area 9 in record { call_sign = 2; ground = ground; width = 20 }
 
 -- ---- grants and cancellations
 
