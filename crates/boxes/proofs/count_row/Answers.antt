@@ -1,15 +1,15 @@
 -- `boxes::count_row`: the most people and the spans tell whether every cell is within the map's limits. Assumes nothing.
 use mathlib.Core.Path.{◌≡◌, refl, sym, ◌∙◌}
 use native.Mathlib.Omega.{arith}
-use borrow.Author.Rules.{rules}
 use borrow.Author.Tests.{not-true, not-false}
 use Rattle.lists.proofs.Tests.{not-both}
 use Rattle.boxes.specs.Rows.{row_fine, FewPeople}
 use Rattle.boxes.proofs.RowLaws.{row_fine-spans, fine-few}
 use Rattle.boxes.proofs.count_row.Goals as goal
+use Rattle.boxes.proofs.count_row.Goals.{After-within, Else-not-within}
 
 -- what `within` told
-fine : (c : goal.After-within)
+fine : (c : After-within)
     → let a = c.args in
     c.within.result ≡ row_fine a.people.now a.latitudes.now a.longitudes.now a.n
 fine c =
@@ -18,7 +18,7 @@ fine c =
     ∙ row_fine-spans a.people.now a.latitudes.now a.longitudes.now a.n c.most-m.result
     c.span_of-la.result c.span_of-lo.result c.most-m.ensures c.span_of-la.ensures c.span_of-lo.ensures
 
-few : (c : goal.Else-not-within) → let a = c.args in FewPeople a.people.now a.n
+few : (c : Else-not-within) → let a = c.args in FewPeople a.people.now a.n
 few c =
     let a = c.args in
     fine-few a.people.now a.latitudes.now a.longitudes.now a.n

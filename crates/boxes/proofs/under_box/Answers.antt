@@ -1,18 +1,15 @@
 -- `boxes::under_box`: at cell k, the people and the cells before it that the box covers are summed. Assumes nothing.
-use Prim.Native.Nat.{◌-◌}
-use mathlib.Core.Path.{◌≡◌, ◌∙◌}
+use mathlib.Core.Path.{◌∙◌}
 use native.Mathlib.Omega.{arith}
 use lib.ListN.{get_or}
 use lib.IntN.{pos}
 use mir.Syntax.{w32}
 use mir.Val.{SFits, to_z, of_z}
 use mir.Facts.{to_z-of_z}
-use borrow.Author.Rules.{rules}
 use Rattle.lists.specs.Sums.{flag}
 use Rattle.boxes.specs.Boxes.{box_covers}
-use Rattle.boxes.specs.Rows.{cell_under}
 use Rattle.boxes.proofs.SignedLaws.{plain-under}
-use Rattle.boxes.proofs.RowLaws.{UnderTo, to_start, to-next, to_end}
+use Rattle.boxes.proofs.RowLaws.{to_start, to-next, to_end}
 use Rattle.boxes.proofs.under_box.Goals as goal
 
 pub loop-k-init : goal.loop-k-init

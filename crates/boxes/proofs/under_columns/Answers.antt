@@ -1,6 +1,5 @@
 -- `boxes::under_columns`: at cell k, the people and the cells before it whose longitude is the box's are summed. Assumes nothing.
-use Prim.Native.Nat.{◌-◌}
-use mathlib.Core.Path.{◌≡◌, ◌∙◌}
+use mathlib.Core.Path.{◌∙◌}
 use mathlib.Core.Bool.{◌&&◌}
 use native.Mathlib.Omega.{arith}
 use lib.ListN.{get_or}
@@ -9,11 +8,9 @@ use lib.Signed.{le_z, lt_z}
 use mir.Syntax.{w32}
 use mir.Val.{SFits, to_z, of_z}
 use mir.Facts.{to_z-of_z}
-use borrow.Author.Rules.{rules}
 use Rattle.lists.specs.Sums.{flag}
-use Rattle.boxes.specs.Rows.{column_under}
 use Rattle.boxes.proofs.SignedLaws.{plain-columns}
-use Rattle.boxes.proofs.RowLaws.{UnderTo, to_start, to-next, to_end}
+use Rattle.boxes.proofs.RowLaws.{to_start, to-next, to_end}
 use Rattle.boxes.proofs.under_columns.Goals as goal
 
 pub loop-k-init : goal.loop-k-init
