@@ -23,7 +23,7 @@ loop-i-preserved c =
     let m = few c.args.call_sign c.places_for-places.result c.places_for-places.ensures in
     let b = c.loop-i-test.true in
     elim c.if-p-call_sign.branch [
-        then-p-call_sign x ↦ frees n m w b x.if-p-call_sign.true (ap (λ (r : Register). r.places) x.self-is) x.found-is
+      | then-p-call_sign x ↦ frees n m w b x.if-p-call_sign.true (ap (λ (r : Register). r.places) x.self-is) x.found-is
       | else-p-call_sign x ↦ leaves-it n m w b x.if-p-call_sign.false (ap (λ (r : Register). r.places) x.self-is) x.found-is
     ]
 

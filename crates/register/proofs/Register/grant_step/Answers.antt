@@ -1,6 +1,6 @@
 -- `register::Register::grant_step` meets its contract. The loop searches from the last place back: whether the call sign is held, and
 -- the first free place. Assumes nothing.
-use Rattle.std.proofs.Common.{◌≡◌, ℕ, ◌≤◌, ◌<◌, Bool, List, length, get_or, set, leb, refl, sym, ap, subst, ◌∙◌, arith}
+use Rattle.std.proofs.Common.{◌≡◌, ℕ, ◌≤◌, ◌<◌, Bool, List, length, set, leb, refl, sym, ap, subst, ◌∙◌, arith}
 use borrow.Author.Tests.{leb-false}
 use Rattle.register.specs.declared.FlatLicence.{FlatLicence}
 use Rattle.register.specs.declared.Licence.{Licence}
@@ -66,11 +66,11 @@ loop-i-preserved c =
     let b = w.0 in (
       omega arith,
       elim c.if-p-l.branch [
-          then-p-l x ↦ seen_here more (omega arith) x.if-p-l.true x.held-is
+        | then-p-l x ↦ seen_here more (omega arith) x.if-p-l.true x.held-is
         | else-p-l x ↦ seen-before w.1 x.if-p-l.false x.held-is
       ],
       elim c.if-p-eq0.branch [
-          then-p-eq0 x ↦ free-here more (omega arith) x.if-p-eq0.true x.free-is
+        | then-p-eq0 x ↦ free-here more (omega arith) x.if-p-eq0.true x.free-is
         | else-p-eq0 x ↦ free-before w.2 x.if-p-eq0.false x.free-is
       ],
     )

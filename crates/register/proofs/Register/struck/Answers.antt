@@ -15,7 +15,7 @@ loop-i-preserved c =
     let g = c.loop-i.invariant in
     let b = c.loop-i-test.true in
     elim c.if-p-call_sign.branch [
-        then-p-call_sign w ↦ gather-takes n g b w.if-p-call_sign.true (ap (λ (r : Register). r.places) w.only-is) w.count-is
+      | then-p-call_sign w ↦ gather-takes n g b w.if-p-call_sign.true (ap (λ (r : Register). r.places) w.only-is) w.count-is
       | else-p-call_sign w ↦ gather-leaves n g b w.if-p-call_sign.false (ap (λ (r : Register). r.places) w.only-is) w.count-is
     ]
 
