@@ -1,7 +1,7 @@
 -- `map::rows::cells_in`: at byte k, the bits of the bytes before it are counted. Assumes nothing.
-use Rattle.std.proofs.Common.{◌≡◌, ℕ, ◌+◌, ◌-◌, ◌*◌, ap, ◌∙◌, arith, rules}
+use Rattle.std.proofs.Common.{◌≡◌, ℕ, ◌+◌, ◌*◌, ap, ◌∙◌, arith}
 use Rattle.map.specs.Cells.{bits_from}
-use Rattle.map.proofs.RowLoops.{Counted, count-starts, count-turns}
+use Rattle.map.proofs.RowLoops.{count-starts, count-turns}
 use Rattle.map.proofs.rows.cells_in.Goals as goal
 
 pub loop-k-init : goal.loop-k-init
