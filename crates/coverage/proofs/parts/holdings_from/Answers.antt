@@ -38,10 +38,9 @@ returns-in-Bad c =
     let a = c.args in
     let b = c.boxes-boxes.result in
     let ls = in_force a.register.places in
-    let f = c.f-1.given in
-    none_done ls f.0.0
+    none_done ls c.in-Bad.f
     (gather-stops a.map.now ls c.loop-k.invariant (take (4 * b.count) b.edges) b.widths c.loop-k-test.true
-    (sym (ap area_means f.1) ∙ c.area_at.ensures))
+    (sym (ap area_means c.in-Bad.is) ∙ c.area_at.ensures))
     c.no_holdings.ensures
 
 -- an area that is read is one of 32
@@ -69,9 +68,8 @@ pub loop-k-preserved : goal.loop-k-preserved
 loop-k-preserved c =
     let a = c.args in
     let b = c.boxes-boxes.result in
-    let g = c.a-1.given in
-    let read = area-read a.map.now (take (4 * b.count) b.edges) b.widths c.loop-k.before c.loop-k.at g.0.0
-    (sym (ap area_means g.1) ∙ c.area_at.ensures) in
+    let read = area-read a.map.now (take (4 * b.count) b.edges) b.widths c.loop-k.before c.loop-k.at c.in-Good.a
+    (sym (ap area_means c.in-Good.is) ∙ c.area_at.ensures) in
     gather-turns a.map.now (in_force a.register.places) c.loop-k.invariant c.loop-k-test.true c.requires
     read (holding-handed c.boxes-boxes.ensures read.holds read.handed c.holding_of.ensures)
 

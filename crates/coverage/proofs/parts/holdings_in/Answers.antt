@@ -18,9 +18,8 @@ pub returns-in-Bad : goal.returns-in-Bad
 unfolding read_map
 returns-in-Bad c =
     let a = c.args in
-    let f = c.f-1.given in
-    none_done (in_force a.register.places) f.0.0
-    (bind-bad _ (sym (ap field_means f.1) ∙ c.u8_field.ensures.0)) c.no_holdings.ensures
+    none_done (in_force a.register.places) c.in-Bad.f
+    (bind-bad _ (sym (ap field_means c.in-Bad.is) ∙ c.u8_field.ensures.0)) c.no_holdings.ensures
 
 pub returns-in-Good : goal.returns-in-Good
 unfolding read_map
