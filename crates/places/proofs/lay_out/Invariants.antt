@@ -9,8 +9,9 @@ use Rattle.places.proofs.lay_out.Given as goal
 
 abbrev pub invariant-loop-i : goal.invariant-loop-i
 invariant-loop-i l =
-    LayingRows l.map l.columns l.rows l.start l.always l.edges (record { l.people = l.initial.people; l.cells = l.initial.cells; l.mask = l.initial.mask })
-    (record { l.people = l.people; l.cells = l.cells; l.mask = l.mask }) l.from l.at l.i
+    LayingRows l.map l.columns l.rows l.start l.always l.edges
+    (record { people = l.initial.people; cells = l.initial.cells; mask = l.initial.mask })
+    (record { people = l.people; cells = l.cells; mask = l.mask }) l.from l.at l.i
 
 abbrev pub decreases-loop-i : goal.decreases-loop-i
 decreases-loop-i l = l.rows - l.i
