@@ -82,7 +82,7 @@ of_box s n w e = full_licence 1 (ground.Box (record { south = s; north = n; west
 
 -- the same licence at another width
 abbrev wide : ℕ → Licence → Licence
-wide w l = record { call_sign = l.call_sign; ground = l.ground; width = w }
+wide w l = record l { width = w }
 
 -- the licences in force, c and the sum of cells
 pub data CoverRow : Type 0 where
