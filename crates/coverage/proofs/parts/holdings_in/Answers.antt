@@ -1,7 +1,6 @@
 -- `coverage::parts::holdings_in` meets its contract: the count, then the areas. Assumes nothing.
 use mathlib.Core.Path.{sym, ap, ◌∙◌, subst}
 use native.Mathlib.Omega.{arith}
-use borrow.Author.Rules.{rules}
 use Rattle.map.specs.Format.{read_map}
 use Rattle.map.specs.Answers.{field_means, field_value}
 use Rattle.map.proofs.FieldLaws.{bind-bad, bind-good}
