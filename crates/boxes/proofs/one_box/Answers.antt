@@ -4,7 +4,6 @@ use mathlib.Core.Path.{◌≡◌, sym, ◌∙◌}
 use mathlib.Core.Bool.{true, ◌&&◌}
 use lib.Signed.{le_z, lt_z}
 use mir.Facts.{to_z-of_z}
-use borrow.Author.Tests.{not-false}
 use Rattle.boxes.proofs.SignedLaws.{plain-under, plain-columns, plain-span}
 use Rattle.boxes.proofs.RowLaws.{apart_none, columns-decide, around-all, under_none, under_all, under_same}
 use Rattle.boxes.proofs.one_box.Goals as goal
@@ -33,7 +32,7 @@ south-north : (c : Else-not-spans)
 south-north c =
     let f = c.ranges in
     sym (c.spans.ensures ∙ plain-span c.args.la f.south f.north)
-    ∙ not-false c.spans.result c.if-not-spans.false-raw
+    ∙ c.if-not-spans.false
 
 pub returns-then-spans : goal.returns-then-spans
 returns-then-spans c =

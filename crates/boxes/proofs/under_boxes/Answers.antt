@@ -7,6 +7,7 @@ use native.Mathlib.Nat.{mul-le-mul}
 use lib.IntN.{ℤ, pos}
 use lib.ListN.{length, get_or}
 use mir.Syntax.{w32}
+use borrow.Author.Rules.{rules}
 use mir.Val.{SFits}
 use Rattle.lists.specs.Sums.{count, sum_to}
 use Rattle.boxes.specs.Boxes.{box_at, boxes_over, width_over}
@@ -44,10 +45,10 @@ loop-i-preserved c =
     let l = c.loop-i in
     let m = length a.edges.now / 4 in
     let edge : ℕ → ℤ = λ k. get_or a.edges.now k (pos 0) in
-    let s : SFits w32 (edge l.i) = record { sfits = c.south-1.given } in
-    let n : SFits w32 (edge (m + l.i)) = record { sfits = c.north-1.given } in
-    let w : SFits w32 (edge (2 * m + l.i)) = record { sfits = c.west-1.given } in
-    let e : SFits w32 (edge (3 * m + l.i)) = record { sfits = c.east-1.given } in
+    let s : SFits w32 (edge l.i) = search rules in
+    let n : SFits w32 (edge (m + l.i)) = search rules in
+    let w : SFits w32 (edge (2 * m + l.i)) = search rules in
+    let e : SFits w32 (edge (3 * m + l.i)) = search rules in
     let tests : ℕ → ℕ → Bool = λ k.
     box_at a.edges.now (get_or a.latitudes.now k (pos 0)) (get_or a.longitudes.now k (pos 0)) m in
     let u = c.one_box-u.result in

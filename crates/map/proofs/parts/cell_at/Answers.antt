@@ -20,7 +20,9 @@ pub returns-in-Bad-i32_field-2 : goal.returns-in-Bad-i32_field-2
 unfolding read_cell
 returns-in-Bad-i32_field-2 c =
     let longitude = sym (ap coordinate_means c.in-Bad-i32_field-2.is) ∙ c.i32_field-in-Good-i32_field.ensures in
-    bind-bad _ longitude ∙ bind-good _ (sym (ap coordinate_means c.in-Good-i32_field.is) ∙ c.i32_field.ensures) ∙ bind-good _ (sym (ap field_means c.in-Good.is) ∙ c.u32_field.ensures.0)
+    let latitude = sym (ap coordinate_means c.in-Good-i32_field.is) ∙ c.i32_field.ensures in
+    let people = sym (ap field_means c.in-Good.is) ∙ c.u32_field.ensures.0 in
+    bind-bad _ longitude ∙ bind-good _ latitude ∙ bind-good _ people
 
 pub returns-in-Good-i32_field-2 : goal.returns-in-Good-i32_field-2
 unfolding read_cell
@@ -30,6 +32,7 @@ returns-in-Good-i32_field-2 c =
     let fx : SFits w32 x.latitude = search rules in
     let fy : SFits w32 y.longitude = search rules in
     let longitude = sym (ap coordinate_means y.is) ∙ c.i32_field-in-Good-i32_field.ensures in
+    let latitude = sym (ap coordinate_means x.is) ∙ c.i32_field.ensures in
+    let people = sym (ap field_means c.in-Good.is) ∙ c.u32_field.ensures.0 in
     (λ i. good (record { people = c.in-Good.people; latitude = to_z-of_z fx i; longitude = to_z-of_z fy i }) y.e)
-    ∙ bind-good _ longitude ∙ bind-good _ (sym (ap coordinate_means x.is) ∙ c.i32_field.ensures)
-    ∙ bind-good _ (sym (ap field_means c.in-Good.is) ∙ c.u32_field.ensures.0)
+    ∙ bind-good _ longitude ∙ bind-good _ latitude ∙ bind-good _ people

@@ -36,7 +36,8 @@ unfolding read_row
 returns-then-not-clear c =
     let a = c.args in
     let stands = leaves _ (sym c.clear.ensures ∙ c.if-not-clear.true) in
-    let is = bind-bad _ (bit-map-is a.s.now a.columns a.at stands (fits a.s.now a.columns a.at c.has_room.ensures c.if-not-has_room.false)) in
+    let there = fits a.s.now a.columns a.at c.has_room.ensures c.if-not-has_room.false in
+    let is = bind-bad _ (bit-map-is a.s.now a.columns a.at stands there) in
     (ap (map_read (row_counts a.edges.now a.widths.now)) is, tt)
 
 pub cells_in-n-requires : goal.cells_in-n-requires
@@ -57,15 +58,20 @@ overflow_add-start c =
 pub overflow_mul-n : goal.overflow_mul-n
 overflow_mul-n c =
     let a = c.args in
-    let small = few a.s.now a.columns a.at (sym c.clear.ensures ∙ c.if-not-clear.false) c.cells_in-n.ensures.0 c.requires.0 in
+    let none = sym c.clear.ensures ∙ c.if-not-clear.false in
+    let small = few a.s.now a.columns a.at none c.cells_in-n.ensures.0 c.requires.0 in
     omega arith
 
 pub first_fault-requires : goal.first_fault-requires
-first_fault-requires c = let a = c.args in few a.s.now a.columns a.at (sym c.clear.ensures ∙ c.if-not-clear.false) c.cells_in-n.ensures.0 c.requires.0
+first_fault-requires c =
+    let a = c.args in
+    let none = sym c.clear.ensures ∙ c.if-not-clear.false in
+    few a.s.now a.columns a.at none c.cells_in-n.ensures.0 c.requires.0
 
 pub returns-then-not-has_room-2 : goal.returns-then-not-has_room-2
 returns-then-not-has_room-2 c =
     let a = c.args in
+    let none = sym c.clear.ensures ∙ c.if-not-clear.false in
     let s = a.s.now in
     let edges = a.edges.now in
     let widths = a.widths.now in
@@ -76,7 +82,7 @@ returns-then-not-has_room-2 c =
     let f = cells-short s n start there short in (
       ap bad (c.first_fault.ensures f.fault f.is)
           ∙ ap (map_read (cell_counts edges widths)) (sym f.is)
-          ∙ row_is s a.columns a.at (sym c.clear.ensures ∙ c.if-not-clear.false) c.cells_in-n.ensures.0 edges widths there,
+          ∙ row_is s a.columns a.at none c.cells_in-n.ensures.0 edges widths there,
       tt,
     )
 
@@ -86,9 +92,10 @@ cells_fit s start n e t = room (start + 12 * n) (length s) e t
 
 pub bare_row-requires : goal.bare_row-requires
 bare_row-requires c =
-    let a = c.args in (
+    let a = c.args in
+    let none = sym c.clear.ensures ∙ c.if-not-clear.false in (
       cells_fit a.s.now (a.at + bit_map_bytes a.columns) c.cells_in-n.result c.has_room-2.ensures c.if-not-has_room-2.false,
-      few a.s.now a.columns a.at (sym c.clear.ensures ∙ c.if-not-clear.false) c.cells_in-n.ensures.0 c.requires.0,
+      few a.s.now a.columns a.at none c.cells_in-n.ensures.0 c.requires.0,
     )
 
 -- a list of length 0 has nothing
@@ -99,6 +106,8 @@ nothing (x ∷ l) e = absurd (omega arith)
 pub returns-then-edges-eq0 : goal.returns-then-edges-eq0
 returns-then-edges-eq0 c =
     let a = c.args in
+    let there = fits a.s.now a.columns a.at c.has_room.ensures c.if-not-has_room.false in
+    let none = sym c.clear.ensures ∙ c.if-not-clear.false in
     let s = a.s.now in
     let edges = a.edges.now in
     let widths = a.widths.now in
@@ -106,24 +115,27 @@ returns-then-edges-eq0 c =
     let n = c.cells_in-n.result in (
       c.bare_row.ensures.0 widths
           ∙ ap (λ (l : List ℤ). map_read (cell_counts l widths) (read_cells s n start)) (nothing edges c.if-edges-eq0.true)
-          ∙ row_is s a.columns a.at (sym c.clear.ensures ∙ c.if-not-clear.false) c.cells_in-n.ensures.0 edges widths (fits a.s.now a.columns a.at c.has_room.ensures c.if-not-has_room.false),
-      tally-more (row-few s a.columns a.at (sym c.clear.ensures ∙ c.if-not-clear.false) c.cells_in-n.ensures.0) c.bare_row.result c.bare_row.ensures.1,
+          ∙ row_is s a.columns a.at none c.cells_in-n.ensures.0 edges widths there,
+      tally-more (row-few s a.columns a.at none c.cells_in-n.ensures.0) c.bare_row.result c.bare_row.ensures.1,
     )
 
 pub boxed_row-requires : goal.boxed_row-requires
 boxed_row-requires c =
-    let a = c.args in (
+    let a = c.args in
+    let none = sym c.clear.ensures ∙ c.if-not-clear.false in (
       cells_fit a.s.now (a.at + bit_map_bytes a.columns) c.cells_in-n.result c.has_room-2.ensures c.if-not-has_room-2.false,
-      few a.s.now a.columns a.at (sym c.clear.ensures ∙ c.if-not-clear.false) c.cells_in-n.ensures.0 c.requires.0,
+      few a.s.now a.columns a.at none c.cells_in-n.ensures.0 c.requires.0,
       c.requires.1,
     )
 
 pub returns : goal.returns
 returns c =
     let a = c.args in
+    let there = fits a.s.now a.columns a.at c.has_room.ensures c.if-not-has_room.false in
+    let none = sym c.clear.ensures ∙ c.if-not-clear.false in
     let s = a.s.now in (
       c.boxed_row.ensures.0
-          ∙ row_is s a.columns a.at (sym c.clear.ensures ∙ c.if-not-clear.false) c.cells_in-n.ensures.0 a.edges.now a.widths.now
-          (fits a.s.now a.columns a.at c.has_room.ensures c.if-not-has_room.false),
-      tally-more (row-few s a.columns a.at (sym c.clear.ensures ∙ c.if-not-clear.false) c.cells_in-n.ensures.0) c.boxed_row.result c.boxed_row.ensures.1,
+          ∙ row_is s a.columns a.at none c.cells_in-n.ensures.0 a.edges.now a.widths.now
+          there,
+      tally-more (row-few s a.columns a.at none c.cells_in-n.ensures.0) c.boxed_row.result c.boxed_row.ensures.1,
     )
