@@ -1,12 +1,11 @@
 -- `places::lay_out`: one row a turn, laid into the parts of the lists from its first place on. Assumes nothing.
-use Prim.Native.Nat.{◌+◌, ◌-◌, ◌≤◌, ◌<◌, ℕ}
+use Prim.Native.Nat.{◌+◌, ◌≤◌, ◌<◌, ℕ}
 use mathlib.Core.List.{List}
 use lib.IntN.{ℤ}
 use native.Mathlib.Omega.{arith}
 use native.Mathlib.Nat.{mul-le-mul}
-use borrow.Author.Rules.{rules}
 use Rattle.places.specs.Places.{Lists}
-use Rattle.places.proofs.LayLaws.{LayingRows, Room, rows_start, row-good, row_fits, row_room, part_room, rows-turn, rows_end}
+use Rattle.places.proofs.LayLaws.{LayingRows, rows_start, row-good, row_fits, part_room, rows-turn, rows_end}
 use Rattle.places.proofs.lay_out.Goals as goal
 
 -- a turn's row lies within the lists, and its places have small numbers

@@ -1,10 +1,6 @@
 -- `places::lay_out`: one row a turn, laid into the parts of the lists from its first place on. Assumes nothing.
-use Prim.Native.Nat.{◌+◌, ◌-◌, ◌≤◌}
-use native.Mathlib.Omega.{arith}
-use native.Mathlib.Nat.{mul-le-mul}
-use borrow.Author.Rules.{rules}
-use Rattle.places.specs.Places.{Lists}
-use Rattle.places.proofs.LayLaws.{LayingRows, Room, rows_start, row-good, row_fits, row_room, part_room, rows-turn, rows_end}
+use Prim.Native.Nat.{◌-◌}
+use Rattle.places.proofs.LayLaws.{LayingRows}
 use Rattle.places.proofs.lay_out.Given as goal
 
 abbrev pub invariant-loop-i : goal.invariant-loop-i

@@ -1,8 +1,6 @@
 -- `places::lay_row`: one place a turn, each laid into the three lists. Assumes nothing.
 use Prim.Native.Nat.{◌-◌}
-use native.Mathlib.Omega.{arith}
-use borrow.Author.Rules.{rules}
-use Rattle.places.proofs.LayLaws.{LayingRow, bits_inside, row-starts, place-turns, place-ends}
+use Rattle.places.proofs.LayLaws.{LayingRow}
 use Rattle.places.proofs.lay_row.Given as goal
 
 abbrev pub invariant-loop-j : goal.invariant-loop-j
