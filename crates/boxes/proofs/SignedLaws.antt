@@ -14,10 +14,6 @@ use Rattle.boxes.specs.declared.Span.{Span}
 use Rattle.boxes.specs.declared.Under.{Under}
 use Rattle.boxes.proofs.OrderLaws.{join-next}
 
--- a test is made on what is read back from the bits
-pub plain-less : {a b : ℤ} → SFits w32 a → SFits w32 b → lt_z (to_z w32 (of_z w32 a)) (to_z w32 (of_z w32 b)) ≡ lt_z a b
-plain-less fa fb = λ i. lt_z (to_z-of_z fa i) (to_z-of_z fb i)
-
 -- a box's tests are made on what is read back from the edges' bits
 pub plain_box : (x y south north west east : ℤ) → SFits w32 south → SFits w32 north → SFits w32 west → SFits w32 east
     → box_covers (to_z w32 (of_z w32 south)) (to_z w32 (of_z w32 north)) (to_z w32 (of_z w32 west)) (to_z w32 (of_z w32 east)) x y

@@ -4,7 +4,7 @@ use Rattle.map.specs.declared.Cell.{Cell}
 use Rattle.map.specs.Reading.{Read, bad, good, bind, many}
 use Rattle.map.specs.Format.{u32_field, latitude_field, longitude_field, read_cell}
 use Rattle.map.specs.Cells.{read_cells}
-use Rattle.map.proofs.Onward.{Gives, gives-bind, gives-map, gives-field, FieldHas}
+use Rattle.map.proofs.Onward.{Gives, gives-bind, gives-field, FieldHas}
 use Rattle.map.proofs.LoopLaws.{sub-step, sub-end}
 
 -- the position after what was read, n bytes on

@@ -1,14 +1,14 @@
 -- `boxes::boxes_over`: at box i, the boxes before it are counted. Assumes nothing.
-use Prim.Native.Nat.{ℕ, ◌+◌, ◌*◌, ◌/◌, ◌-◌, ◌≤◌}
+use Prim.Native.Nat.{ℕ, ◌+◌, ◌*◌, ◌/◌}
 use mathlib.Core.Path.{◌≡◌, refl, sym, ap, ◌∙◌}
 use native.Mathlib.Omega.{arith}
 use native.Mathlib.Numerals.{add-one}
 use lib.IntN.{ℤ, pos}
 use lib.ListN.{length, get_or}
 use mir.Syntax.{w32}
-use mir.Val.{to_z, of_z}
-use mir.Facts.{to_z-of_z}
 use borrow.Author.Rules.{rules}
+use mir.Val.{SFits, to_z, of_z}
+use mir.Facts.{to_z-of_z}
 use Rattle.lists.specs.Sums.{flag}
 use Rattle.lists.specs.Sums as sums
 use Rattle.boxes.specs.Boxes.{box_at, boxes_over}
@@ -28,10 +28,12 @@ loop-i-preserved c =
     let y = to_z w32 (of_z w32 a.longitude) in
     let n = length a.edges.now / 4 in
     let edge : ℕ → ℤ = λ k. get_or a.edges.now k (pos 0) in
+    let fs : SFits w32 (edge l.i) = search rules in
+    let fn : SFits w32 (edge (n + l.i)) = search rules in
+    let fw : SFits w32 (edge (2 * n + l.i)) = search rules in
+    let fe : SFits w32 (edge (3 * n + l.i)) = search rules in
     let plainly =
-    plain_box x y (edge l.i) (edge (n + l.i)) (edge (2 * n + l.i)) (edge (3 * n + l.i))
-    (record { sfits = c.south-1.given }) (record { sfits = c.north-1.given })
-    (record { sfits = c.west-1.given }) (record { sfits = c.east-1.given }) in (
+    plain_box x y (edge l.i) (edge (n + l.i)) (edge (2 * n + l.i)) (edge (3 * n + l.i)) fs fn fw fe in (
       omega (arith, c.loop-i-test.true),
       omega (arith, c.covers-count.ensures.1, l.invariant),
       (λ i. l.invariant.2 i + (c.covers-count.ensures.0 ∙ ap flag plainly) i)

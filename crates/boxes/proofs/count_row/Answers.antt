@@ -1,15 +1,14 @@
 -- `boxes::count_row`: the most people and the spans tell whether every cell is within the map's limits. Assumes nothing.
 use mathlib.Core.Path.{◌≡◌, refl, sym, ◌∙◌}
 use native.Mathlib.Omega.{arith}
-use borrow.Author.Rules.{rules}
-use borrow.Author.Tests.{not-true, not-false}
 use Rattle.lists.proofs.Tests.{not-both}
 use Rattle.boxes.specs.Rows.{row_fine, FewPeople}
 use Rattle.boxes.proofs.RowLaws.{row_fine-spans, fine-few}
 use Rattle.boxes.proofs.count_row.Goals as goal
+use Rattle.boxes.proofs.count_row.Goals.{After-within, Else-not-within}
 
 -- what `within` told
-fine : (c : goal.After-within)
+fine : (c : After-within)
     → let a = c.args in
     c.within.result ≡ row_fine a.people.now a.latitudes.now a.longitudes.now a.n
 fine c =
@@ -18,15 +17,15 @@ fine c =
     ∙ row_fine-spans a.people.now a.latitudes.now a.longitudes.now a.n c.most-m.result
     c.span_of-la.result c.span_of-lo.result c.most-m.ensures c.span_of-la.ensures c.span_of-lo.ensures
 
-few : (c : goal.Else-not-within) → let a = c.args in FewPeople a.people.now a.n
+few : (c : Else-not-within) → let a = c.args in FewPeople a.people.now a.n
 few c =
     let a = c.args in
     fine-few a.people.now a.latitudes.now a.longitudes.now a.n
-    (sym (fine c.before) ∙ not-false c.within.result c.if-not-within.false-raw) c.requires.0
+    (sym (fine c.before) ∙ c.if-not-within.false) c.requires.0
 
 pub returns-then-not-within : goal.returns-then-not-within
 returns-then-not-within c = record {
-  fine = sym (not-true c.within.result c.if-not-within.true-raw) ∙ fine c.before;
+  fine = sym (c.if-not-within.true) ∙ fine c.before;
   people = λ t. not-both t refl;
   boxed-mhz-pops = λ t. not-both t refl;
   boxed-cells = λ t. not-both t refl;
@@ -47,7 +46,7 @@ pub returns : goal.returns
 returns c =
     let under = c.under_boxes-under.ensures in
     record {
-      fine = sym (not-false c.within.result c.if-not-within.false-raw) ∙ fine c.before.before.before;
+      fine = sym (c.if-not-within.false) ∙ fine c.before.before.before;
       people = λ _. c.sum-all.ensures.0;
       boxed-mhz-pops = λ _. under.mhz-pops;
       boxed-cells = λ _. under.cells;

@@ -1,9 +1,8 @@
 -- `boxes::most`: at cell k, the people before it are joined. Assumes nothing.
-use Prim.Native.Nat.{ℕ, ◌-◌, ◌≤◌}
+use Prim.Native.Nat.{ℕ}
 use mathlib.Core.Path.{◌≡◌, refl, ap, ◌∙◌}
 use native.Mathlib.Omega.{arith}
 use lib.ListN.{get_or}
-use borrow.Author.Rules.{rules}
 use Rattle.boxes.specs.Rows.{join_to, larger_n}
 use Rattle.boxes.proofs.OrderLaws.{join-next}
 use Rattle.boxes.proofs.most.Goals as goal

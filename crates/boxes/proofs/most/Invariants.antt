@@ -1,11 +1,8 @@
 -- `boxes::most`: at cell k, the people before it are joined. Assumes nothing.
-use Prim.Native.Nat.{ℕ, ◌-◌, ◌≤◌}
-use mathlib.Core.Path.{◌≡◌, refl, ap, ◌∙◌}
-use native.Mathlib.Omega.{arith}
+use Prim.Native.Nat.{◌-◌, ◌≤◌}
+use mathlib.Core.Path.{◌≡◌}
 use lib.ListN.{get_or}
-use borrow.Author.Rules.{rules}
 use Rattle.boxes.specs.Rows.{join_to, larger_n}
-use Rattle.boxes.proofs.OrderLaws.{join-next}
 use Rattle.boxes.proofs.most.Given as goal
 
 abbrev pub invariant-loop-k : goal.invariant-loop-k

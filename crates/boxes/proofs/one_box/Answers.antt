@@ -4,11 +4,10 @@ use mathlib.Core.Path.{◌≡◌, sym, ◌∙◌}
 use mathlib.Core.Bool.{true, ◌&&◌}
 use lib.Signed.{le_z, lt_z}
 use mir.Facts.{to_z-of_z}
-use borrow.Author.Rules.{rules}
-use borrow.Author.Tests.{not-false}
 use Rattle.boxes.proofs.SignedLaws.{plain-under, plain-columns, plain-span}
 use Rattle.boxes.proofs.RowLaws.{apart_none, columns-decide, around-all, under_none, under_all, under_same}
 use Rattle.boxes.proofs.one_box.Goals as goal
+use Rattle.boxes.proofs.one_box.Goals.{Else-not-spans}
 
 pub returns-then-apart : goal.returns-then-apart
 returns-then-apart c =
@@ -27,13 +26,13 @@ returns-then-not-spans c =
     plain-under a.latitudes.now a.longitudes.now f.south f.north f.west f.east c.under_box.ensures
 
 -- what `spans` told
-south-north : (c : goal.Else-not-spans)
+south-north : (c : Else-not-spans)
     → let a = c.args in
     le_z a.south a.la.least && lt_z a.la.greatest a.north ≡ true
 south-north c =
     let f = c.ranges in
     sym (c.spans.ensures ∙ plain-span c.args.la f.south f.north)
-    ∙ not-false c.spans.result c.if-not-spans.false-raw
+    ∙ c.if-not-spans.false
 
 pub returns-then-spans : goal.returns-then-spans
 returns-then-spans c =

@@ -1,12 +1,12 @@
 -- `boxes::span_of`: at cell k, the coordinates before it are joined. Assumes nothing.
-use Prim.Native.Nat.{ℕ, ◌-◌, ◌≤◌}
+use Prim.Native.Nat.{ℕ}
 use mathlib.Core.Path.{◌≡◌, refl, ap, ◌∙◌}
 use native.Mathlib.Omega.{arith}
 use lib.ListN.{get_or}
 use lib.IntN.{ℤ, pos, negsuc}
 use mir.Syntax.{w32}
-use mir.Val.{SFits, to_z}
 use borrow.Author.Rules.{rules}
+use mir.Val.{SFits}
 use Rattle.boxes.specs.Rows.{join_to, lower_z, higher_z}
 use Rattle.boxes.proofs.SignedLaws.{plain-next}
 use Rattle.boxes.proofs.span_of.Goals as goal
@@ -18,11 +18,13 @@ loop-k-init c = (omega arith, refl, refl)
 pub loop-k-preserved : goal.loop-k-preserved
 loop-k-preserved c =
     let l = c.loop-k in
+    let low = c.lower-least in
+    let high = c.higher-greatest in
     let value : ℕ → ℤ = λ j. get_or c.args.values.now j (pos 0) in
-    let fits : SFits w32 (value l.k) = record { sfits = c.lower-arg-1.given } in (
+    let fits : SFits w32 (value l.k) = search rules in (
       omega (arith, c.loop-k-test.true),
-      plain-next lower_z (pos 2_147_483_647) value l.k l.invariant.1 c.lower-least.ensures (record { sfits = c.lower-least.type-inv }) fits,
-      plain-next higher_z (negsuc 2_147_483_647) value l.k l.invariant.2 c.higher-greatest.ensures (record { sfits = c.higher-greatest.type-inv }) fits,
+      plain-next lower_z (pos 2_147_483_647) value l.k l.invariant.1 low.ensures (record { sfits = low.type_inv }) fits,
+      plain-next higher_z (negsuc 2_147_483_647) value l.k l.invariant.2 high.ensures (record { sfits = high.type_inv }) fits,
     )
 
 pub returns : goal.returns

@@ -1,11 +1,8 @@
 -- `boxes::sum`: at cell k, the people before it are summed. Assumes nothing.
-use Prim.Native.Nat.{ℕ, ◌+◌, ◌*◌, ◌-◌, ◌≤◌}
-use mathlib.Core.Path.{◌≡◌, refl, ap, ◌∙◌}
-use native.Mathlib.Omega.{arith}
+use Prim.Native.Nat.{◌*◌, ◌-◌, ◌≤◌}
+use mathlib.Core.Path.{◌≡◌}
 use lib.ListN.{get_or}
-use borrow.Author.Rules.{rules}
-use Rattle.lists.specs.Sums.{sum_below, sum_to}
-use Rattle.lists.proofs.BelowLaws.{sum-next}
+use Rattle.lists.specs.Sums.{sum_to}
 use Rattle.boxes.proofs.sum.Given as goal
 
 abbrev pub invariant-loop-k : goal.invariant-loop-k

@@ -1,18 +1,16 @@
 -- `boxes::under_box`: at cell k, the people and the cells before it that the box covers are summed. Assumes nothing.
-use Prim.Native.Nat.{◌-◌}
-use mathlib.Core.Path.{◌≡◌, ◌∙◌}
+use mathlib.Core.Path.{◌∙◌}
 use native.Mathlib.Omega.{arith}
 use lib.ListN.{get_or}
 use lib.IntN.{pos}
 use mir.Syntax.{w32}
+use borrow.Author.Rules.{rules}
 use mir.Val.{SFits, to_z, of_z}
 use mir.Facts.{to_z-of_z}
-use borrow.Author.Rules.{rules}
 use Rattle.lists.specs.Sums.{flag}
 use Rattle.boxes.specs.Boxes.{box_covers}
-use Rattle.boxes.specs.Rows.{cell_under}
 use Rattle.boxes.proofs.SignedLaws.{plain-under}
-use Rattle.boxes.proofs.RowLaws.{UnderTo, to_start, to-next, to_end}
+use Rattle.boxes.proofs.RowLaws.{to_start, to-next, to_end}
 use Rattle.boxes.proofs.under_box.Goals as goal
 
 pub loop-k-init : goal.loop-k-init
@@ -22,8 +20,8 @@ pub loop-k-preserved : goal.loop-k-preserved
 loop-k-preserved c =
     let a = c.args in
     let k = c.loop-k.k in
-    let x : SFits w32 (get_or a.latitudes.now k (pos 0)) = record { sfits = c.covers-arg-1.given } in
-    let y : SFits w32 (get_or a.longitudes.now k (pos 0)) = record { sfits = c.covers-arg-in-loop-k-1.given } in
+    let x : SFits w32 (get_or a.latitudes.now k (pos 0)) = search rules in
+    let y : SFits w32 (get_or a.longitudes.now k (pos 0)) = search rules in
     to-next c.loop-k.invariant c.requires c.loop-k-test.true c.covers-here.ensures.1
     (c.covers-here.ensures.0
     ∙ (λ i. flag (box_covers (to_z w32 (of_z w32 a.south)) (to_z w32 (of_z w32 a.north)) (to_z w32 (of_z w32 a.west))

@@ -1,23 +1,12 @@
 -- `boxes::under_box`: at cell k, the people and the cells before it that the box covers are summed. Assumes nothing.
 use Prim.Native.Nat.{◌-◌}
-use mathlib.Core.Path.{◌≡◌, ◌∙◌}
-use native.Mathlib.Omega.{arith}
-use lib.ListN.{get_or}
-use lib.IntN.{pos}
-use mir.Syntax.{w32}
-use mir.Val.{SFits, to_z, of_z}
-use mir.Facts.{to_z-of_z}
-use borrow.Author.Rules.{rules}
-use Rattle.lists.specs.Sums.{flag}
-use Rattle.boxes.specs.Boxes.{box_covers}
 use Rattle.boxes.specs.Rows.{cell_under}
-use Rattle.boxes.proofs.SignedLaws.{plain-under}
-use Rattle.boxes.proofs.RowLaws.{UnderTo, to_start, to-next, to_end}
+use Rattle.boxes.proofs.RowLaws.{UnderTo}
 use Rattle.boxes.proofs.under_box.Given as goal
 
 abbrev pub invariant-loop-k : goal.invariant-loop-k
 invariant-loop-k l =
-    UnderTo l.people (cell_under (to_z w32 l.south) (to_z w32 l.north) (to_z w32 l.west) (to_z w32 l.east) l.latitudes l.longitudes) l.n l.k l.sum l.cells
+    UnderTo l.people (cell_under l.south l.north l.west l.east l.latitudes l.longitudes) l.n l.k l.sum l.cells
 
 abbrev pub decreases-loop-k : goal.decreases-loop-k
 decreases-loop-k l = l.n - l.k

@@ -1,19 +1,11 @@
 -- `boxes::under_boxes`: at box i, what the boxes before it cover is summed, cell by cell. Assumes nothing.
-use Prim.Native.Nat.{ℕ, ◌+◌, ◌*◌, ◌/◌, ◌-◌, ◌≤◌, ◌<◌}
-use mathlib.Core.Path.{◌≡◌, ap, ◌∙◌}
-use mathlib.Core.Bool.{Bool}
-use native.Mathlib.Omega.{arith}
-use native.Mathlib.Nat.{mul-le-mul}
-use lib.IntN.{ℤ, pos}
-use lib.ListN.{length, get_or}
-use mir.Syntax.{w32}
-use mir.Val.{SFits}
-use borrow.Author.Rules.{rules}
+use Prim.Native.Nat.{ℕ, ◌*◌, ◌-◌, ◌≤◌, ◌<◌}
+use mathlib.Core.Path.{◌≡◌}
+use lib.IntN.{pos}
+use lib.ListN.{get_or}
 use Rattle.lists.specs.Sums.{count, sum_to}
-use Rattle.boxes.specs.Boxes.{box_at, boxes_over, width_over}
-use Rattle.boxes.specs.Rows.{UnderBox}
-use Rattle.boxes.proofs.SignedLaws.{plain-under}
-use Rattle.boxes.proofs.RowLaws.{width_to, most-next, under-start, under_next}
+use Rattle.boxes.specs.Boxes.{box_at}
+use Rattle.boxes.proofs.RowLaws.{width_to}
 use Rattle.boxes.proofs.under_boxes.Given as goal
 
 abbrev pub invariant-loop-i : goal.invariant-loop-i

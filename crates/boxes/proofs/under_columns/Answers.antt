@@ -1,19 +1,17 @@
 -- `boxes::under_columns`: at cell k, the people and the cells before it whose longitude is the box's are summed. Assumes nothing.
-use Prim.Native.Nat.{◌-◌}
-use mathlib.Core.Path.{◌≡◌, ◌∙◌}
+use mathlib.Core.Path.{◌∙◌}
 use mathlib.Core.Bool.{◌&&◌}
 use native.Mathlib.Omega.{arith}
 use lib.ListN.{get_or}
 use lib.IntN.{pos}
 use lib.Signed.{le_z, lt_z}
 use mir.Syntax.{w32}
+use borrow.Author.Rules.{rules}
 use mir.Val.{SFits, to_z, of_z}
 use mir.Facts.{to_z-of_z}
-use borrow.Author.Rules.{rules}
 use Rattle.lists.specs.Sums.{flag}
-use Rattle.boxes.specs.Rows.{column_under}
 use Rattle.boxes.proofs.SignedLaws.{plain-columns}
-use Rattle.boxes.proofs.RowLaws.{UnderTo, to_start, to-next, to_end}
+use Rattle.boxes.proofs.RowLaws.{to_start, to-next, to_end}
 use Rattle.boxes.proofs.under_columns.Goals as goal
 
 pub loop-k-init : goal.loop-k-init
@@ -23,7 +21,7 @@ pub loop-k-preserved : goal.loop-k-preserved
 loop-k-preserved c =
     let a = c.args in
     let k = c.loop-k.k in
-    let x : SFits w32 (get_or a.longitudes.now k (pos 0)) = record { sfits = c.one-arg-1.given } in
+    let x : SFits w32 (get_or a.longitudes.now k (pos 0)) = search rules in
     to-next c.loop-k.invariant c.requires c.loop-k-test.true c.one-here.ensures.1
     (c.one-here.ensures.0
     ∙ (λ i. flag (le_z (to_z w32 (of_z w32 a.west)) (to_z-of_z x i) && lt_z (to_z-of_z x i) (to_z w32 (of_z w32 a.east)))))

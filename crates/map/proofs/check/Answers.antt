@@ -1,5 +1,5 @@
 -- `map::check`: what a look_up of any number says of the map. Assumes nothing.
-use Rattle.std.proofs.Common.{sym, ap, ◌∙◌, rules}
+use Rattle.std.proofs.Common.{sym, ap, ◌∙◌}
 use Rattle.map.proofs.AreaLaws.{looked_number, number_is}
 use Rattle.map.specs.Format.{read_map}
 use Rattle.map.specs.Answers.{found_means}

@@ -1,5 +1,5 @@
 -- `map::look_up`: what is sought under no box, without its counts. Assumes nothing.
-use Rattle.std.proofs.Common.{[], sym, ap, ◌∙◌, rules}
+use Rattle.std.proofs.Common.{[], sym, ap, ◌∙◌}
 use Rattle.map.proofs.AreaLaws.{bare, look-up-is}
 use Rattle.map.specs.Format.{read_map}
 use Rattle.map.specs.Answers.{sought_means}

@@ -1,5 +1,5 @@
 -- `map::rows_of`: the part between the area's start and its end, or an empty one. Assumes nothing.
-use Rattle.std.proofs.Common.{◌≤◌, length, sym, ap, ◌∙◌, rules}
+use Rattle.std.proofs.Common.{◌≤◌, length, sym, ap, ◌∙◌}
 use Rattle.map.proofs.Accepted.{looked-up, inside_of, part_by, part-is}
 use Rattle.map.specs.Format.{read_map}
 use Rattle.map.specs.Answers.{found_means}
@@ -31,14 +31,12 @@ returns-in-At c =
 
 pub returns-in-Lacking : goal.returns-in-Lacking
 returns-in-Lacking c =
-    let c5 = c3.before.before in
-    let a = c5.args in
+    let a = c.args in
     ap (part_by a.map.now) (sym (ap found_means c.in-Lacking.is) ∙ c.look_up.ensures)
     ∙ part-is a.map.now a.number (read_map a.map.now)
 
 pub returns-in-Refused : goal.returns-in-Refused
 returns-in-Refused c =
-    let c5 = c3.before.before in
-    let a = c5.args in
+    let a = c.args in
     ap (part_by a.map.now) (sym (ap found_means c.in-Refused.is) ∙ c.look_up.ensures)
     ∙ part-is a.map.now a.number (read_map a.map.now)

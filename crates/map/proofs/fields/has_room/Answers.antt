@@ -1,5 +1,5 @@
 -- `map::fields::has_room`: where the position is inside, the bytes after it are counted. Assumes nothing.
-use Rattle.std.proofs.Common.{◌+◌, ◌-◌, length, sym, arith, rules}
+use Rattle.std.proofs.Common.{◌+◌, ◌-◌, length, sym, arith}
 use borrow.Author.Tests.{lt-leb}
 use Rattle.lists.proofs.Tests.{leb-same}
 use Rattle.map.proofs.fields.has_room.Goals as goal

@@ -1,6 +1,6 @@
 -- `map::fields::number_at`: the bytes are read from the last to the first. Assumes nothing.
-use Rattle.std.proofs.Common.{arith, rules}
-use Rattle.map.proofs.FieldLaws.{Numbered, number-starts, number-turns, number_fits, number-ends}
+use Rattle.std.proofs.Common.{arith}
+use Rattle.map.proofs.FieldLaws.{number-starts, number-turns, number_fits, number-ends}
 use Rattle.map.proofs.fields.number_at.Goals as goal
 
 pub loop-k-init : goal.loop-k-init

@@ -1,6 +1,5 @@
 -- `map::fields::number_at`: the bytes are read from the last to the first. Assumes nothing.
-use Rattle.std.proofs.Common.{arith, rules}
-use Rattle.map.proofs.FieldLaws.{Numbered, number-starts, number-turns, number_fits, number-ends}
+use Rattle.map.proofs.FieldLaws.{Numbered}
 use Rattle.map.proofs.fields.number_at.Given as goal
 
 abbrev pub invariant-loop-k : goal.invariant-loop-k

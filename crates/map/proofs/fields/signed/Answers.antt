@@ -1,5 +1,5 @@
 -- `map::fields::signed`: numbers from 2^31 on stand for negative ones. Assumes nothing.
-use Rattle.std.proofs.Common.{◌≡◌, ◌-◌, pos, negsuc, sym, ◌∙◌, arith, to_z-of_z, w32, to_z, rules, le-ltb, lt-ltb}
+use Rattle.std.proofs.Common.{◌≡◌, ◌-◌, pos, negsuc, sym, ◌∙◌, arith, to_z-of_z, w32, to_z, le-ltb, lt-ltb}
 use mir.Facts.{to_z_pos}
 use Rattle.map.proofs.FieldLaws.{minus_one}
 use Rattle.map.specs.Format.{signed32}

@@ -1,5 +1,5 @@
 -- `map::fields::size_field`: a field of one byte, by its definition. Assumes nothing.
-use Rattle.std.proofs.Common.{arith, rules}
+use Rattle.std.proofs.Common.{arith}
 use Rattle.map.specs.Format.{size_field}
 use Rattle.map.proofs.fields.size_field.Goals as goal
 

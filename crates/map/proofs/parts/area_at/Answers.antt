@@ -1,5 +1,5 @@
 -- `map::parts::area_at`: the head, then what follows it. Assumes nothing.
-use Rattle.std.proofs.Common.{sym, ap, ◌∙◌, subst, rules}
+use Rattle.std.proofs.Common.{sym, ap, ◌∙◌, subst}
 use Rattle.map.proofs.FieldLaws.{bind-bad, bind-good}
 use Rattle.map.specs.Reading.{map_read}
 use Rattle.map.specs.Format.{read_area}

@@ -1,5 +1,5 @@
 -- `map::parts::area_for`: the head, then what follows it, under boxes if the head has the number. Assumes nothing.
-use Rattle.std.proofs.Common.{sym, ap, ◌∙◌, subst, arith, rules}
+use Rattle.std.proofs.Common.{sym, ap, ◌∙◌, subst, arith}
 use Rattle.map.proofs.FieldLaws.{bind-bad, bind-good}
 use Rattle.map.proofs.AreaLaws.{for-sought, for-other}
 use Rattle.map.specs.Reading.{map_read}
@@ -16,11 +16,11 @@ pub returns-then-h-number : goal.returns-then-h-number
 unfolding read_area
 returns-then-h-number c =
     let a = c.args in
-    let g = c.h-1.given in
-    for-sought a.s.now g.0.1.0 a.number a.edges.now a.widths.now (head_of g.0.0) c.if-h-number.true
+    let g = c.in-Good in
+    for-sought a.s.now g.start a.number a.edges.now a.widths.now (head_of g.h) c.if-h-number.true
     c.area_from.ensures
     ∙ ap (map_read (counted_for a.number a.edges.now a.widths.now))
-    (bind-good _ (sym (ap head_means g.1) ∙ c.head_at.ensures.0))
+    (bind-good _ (sym (ap head_means g.is) ∙ c.head_at.ensures.0))
 
 pub area_from-requires-in-Good : goal.area_from-requires-in-Good
 area_from-requires-in-Good c =
@@ -37,9 +37,9 @@ returns-in-Bad c =
 pub returns-else-h-number : goal.returns-else-h-number
 unfolding read_area
 returns-else-h-number c =
-    let a = c7.before.before.args in
-    let g = c.h-1.given in
-    for-other a.s.now g.0.1.0 a.number a.edges.now a.widths.now (head_of g.0.0) c.if-h-number.false
+    let a = c.args in
+    let g = c.in-Good in
+    for-other a.s.now g.start a.number a.edges.now a.widths.now (head_of g.h) c.if-h-number.false
     c.area_from-in-Good.ensures
     ∙ ap (map_read (counted_for a.number a.edges.now a.widths.now))
-    (bind-good _ (sym (ap head_means g.1) ∙ c.head_at.ensures.0))
+    (bind-good _ (sym (ap head_means g.is) ∙ c.head_at.ensures.0))

@@ -1,6 +1,5 @@
 -- `map::parts::area_from`: the walk over the rows, then the limits of the population. Assumes nothing.
-use Rattle.std.proofs.Common.{◌≡◌, true, leb, sym, ap, ◌∙◌, arith, rules}
-use borrow.Author.Tests.{not-true, not-false}
+use Rattle.std.proofs.Common.{sym, ap, ◌∙◌, arith}
 use Rattle.lists.proofs.Tests.{both, not_first, not-second}
 use Rattle.map.proofs.AreaLaws.{body-bad, body-good, body-out}
 use Rattle.map.specs.Answers.{tally_means, head_of}
@@ -9,23 +8,20 @@ use Rattle.map.proofs.parts.area_from.Goals as goal
 pub walk-requires : goal.walk-requires
 walk-requires c = let p = c.requires in (omega (arith, p), omega (arith, p), p.2)
 
--- past the first test there are people
-peopled : (c : goal.Else-not-at_most) → leb 1 c.in-Good.counts.people.0 ≡ true
-peopled c = sym c.at_most.ensures ∙ not-false c.at_most.result c.if-not-at_most.false-raw
-
 pub returns-then-not-at_most : goal.returns-then-not-at_most
 returns-then-not-at_most c =
     let a = c.args in
     let read = sym (ap tally_means c.in-Good.is) ∙ c.walk.ensures.0 in
-    let low = sym c.at_most.ensures ∙ not-true c.at_most.result c.if-not-at_most.true-raw in
+    let low = sym c.at_most.ensures ∙ c.if-not-at_most.true in
     body-out a.s.now (head_of a.h) a.start a.edges.now a.widths.now read (not_first _ low)
 
 pub returns-then-not-at_most-2 : goal.returns-then-not-at_most-2
 returns-then-not-at_most-2 c =
     let a = c.args in
     let read = sym (ap tally_means c.in-Good.is) ∙ c.walk.ensures.0 in
-    let high = sym c.at_most-in-Good.ensures ∙ not-true c.at_most-in-Good.result c.if-not-at_most-2.true-raw in
-    body-out a.s.now (head_of a.h) a.start a.edges.now a.widths.now read (not-second (peopled c.before.before) high)
+    let peopled = sym c.at_most.ensures ∙ c.if-not-at_most.false in
+    let high = sym c.at_most-in-Good.ensures ∙ c.if-not-at_most-2.true in
+    body-out a.s.now (head_of a.h) a.start a.edges.now a.widths.now read (not-second peopled high)
 
 pub returns-in-Bad : goal.returns-in-Bad
 returns-in-Bad c =
@@ -37,5 +33,6 @@ pub returns-else-not-at_most-2 : goal.returns-else-not-at_most-2
 returns-else-not-at_most-2 c =
     let a = c.args in
     let read = sym (ap tally_means c.in-Good.is) ∙ c.walk.ensures.0 in
-    let high = sym c.at_most-in-Good.ensures ∙ not-false c.at_most-in-Good.result c.if-not-at_most-2.false-raw in
-    body-good a.s.now (head_of a.h) a.start a.edges.now a.widths.now read (both (peopled c.before.before) high)
+    let peopled = sym c.at_most.ensures ∙ c.if-not-at_most.false in
+    let high = sym c.at_most-in-Good.ensures ∙ c.if-not-at_most-2.false in
+    body-good a.s.now (head_of a.h) a.start a.edges.now a.widths.now read (both peopled high)

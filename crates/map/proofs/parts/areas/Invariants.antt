@@ -1,8 +1,6 @@
 -- `map::parts::areas`: the search, one area a turn. Assumes nothing.
-use Rattle.std.proofs.Common.{◌-◌, sym, ap, ◌∙◌, arith, rules, eq-eqb, ne_eqb}
-use Rattle.lists.proofs.Tests.{takes, leaves}
-use Rattle.map.proofs.AreaLaws.{Search, search-starts, search-stops, search-turns, search-ends}
-use Rattle.map.specs.Answers.{area_means}
+use Rattle.std.proofs.Common.{◌-◌}
+use Rattle.map.proofs.AreaLaws.{Search}
 use Rattle.map.proofs.parts.areas.Given as goal
 
 abbrev pub invariant-loop-k : goal.invariant-loop-k

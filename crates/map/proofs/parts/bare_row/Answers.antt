@@ -1,5 +1,5 @@
 -- `map::parts::bare_row`: the sum of the cells, if each is within its limits. Assumes nothing.
-use Rattle.std.proofs.Common.{◌+◌, ◌*◌, [], sym, ◌∙◌, arith, rules}
+use Rattle.std.proofs.Common.{◌+◌, ◌*◌, [], sym, ◌∙◌, arith}
 use Rattle.lists.proofs.Tests.{by-test, not-both, takes, leaves}
 use Rattle.map.specs.Reading.{bad, good}
 use Rattle.map.specs.Counting.{counts}

@@ -1,5 +1,5 @@
 -- `map::parts::bit`: the byte of the bit map, shifted. Assumes nothing.
-use Rattle.std.proofs.Common.{ℕ, ◌/◌, ◌%◌, ◌^◌, eqb, ap, rules}
+use Rattle.std.proofs.Common.{ℕ, ◌/◌, ◌%◌, ◌^◌, eqb, ap}
 use Rattle.map.specs.Format.{bit_at}
 use Rattle.map.proofs.parts.bit.Goals as goal
 

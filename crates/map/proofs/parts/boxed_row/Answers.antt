@@ -1,5 +1,5 @@
 -- `map::parts::boxed_row`: the cells taken apart and held against the boxes, if each is within its limits. Assumes nothing.
-use Rattle.std.proofs.Common.{◌+◌, ◌*◌, sym, ◌∙◌, rules}
+use Rattle.std.proofs.Common.{◌+◌, ◌*◌, sym, ◌∙◌}
 use Rattle.lists.proofs.Tests.{by-test, not-both, takes, leaves}
 use Rattle.map.specs.Reading.{bad, good}
 use Rattle.map.specs.Counting.{counts}
@@ -8,12 +8,11 @@ use Rattle.map.proofs.parts.boxed_row.Goals as goal
 
 pub returns : goal.returns
 returns c =
-    let begin = c6.before.before.before.before.before in
-    let a = begin.args in
+    let a = c.args in
     let s = a.s.now in
     let edges = a.edges.now in
     let widths = a.widths.now in
-    let room = begin.requires.0 in
+    let room = c.requires.0 in
     let r = c.count_row-row in
     let taken = c.take_row.ensures in
     let is = fine-within s a.start a.n taken r.ensures in
@@ -23,7 +22,7 @@ returns c =
     let read = boxed-counts s a.start a.n taken r.ensures room t in (
       c.counted.ensures.0 ∙ sym (takes (bad 2) t) ∙ read,
       c.counted.ensures.1 a.n
-          (λ _. tally-small s a.n a.start edges widths begin.requires.2 (r.ensures.narrow t) room (sym is ∙ t) read),
+          (λ _. tally-small s a.n a.start edges widths c.requires.2 (r.ensures.narrow t) room (sym is ∙ t) read),
     ))
     (λ t. (
       c.counted.ensures.0 ∙ sym (leaves (good there (a.start + 12 * a.n)) t)

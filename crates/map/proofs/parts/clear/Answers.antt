@@ -1,7 +1,6 @@
 -- `map::parts::clear`: at bit j, the bits before it are 0. Assumes nothing.
-use Rattle.std.proofs.Common.{◌≡◌, ◌-◌, ◌≤◌, sym, refl, ◌∙◌, arith}
+use Rattle.std.proofs.Common.{sym, refl, ◌∙◌, arith}
 use Rattle.map.proofs.LoopLaws.{clear-stop, clear_step, clear-end}
-use Rattle.map.specs.Format.{clear_from}
 use Rattle.map.proofs.parts.clear.Goals as goal
 
 pub loop-j-init : goal.loop-j-init

@@ -1,6 +1,5 @@
 -- `map::parts::clear`: at bit j, the bits before it are 0. Assumes nothing.
-use Rattle.std.proofs.Common.{◌≡◌, ◌-◌, ◌≤◌, sym, refl, ◌∙◌, arith}
-use Rattle.map.proofs.LoopLaws.{clear-stop, clear_step, clear-end}
+use Rattle.std.proofs.Common.{◌≡◌, ◌-◌, ◌≤◌}
 use Rattle.map.specs.Format.{clear_from}
 use Rattle.map.proofs.parts.clear.Given as goal
 

@@ -1,5 +1,4 @@
 -- `map::parts::counted`: by the test of the cells. Assumes nothing.
-use Rattle.std.proofs.Common.{sym}
 use Rattle.lists.proofs.Tests.{takes, leaves}
 use Rattle.map.specs.Reading.{bad, good}
 use Rattle.map.proofs.parts.counted.Goals as goal

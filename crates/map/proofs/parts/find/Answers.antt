@@ -1,5 +1,5 @@
 -- `map::parts::find`: the count, then the areas. Assumes nothing.
-use Rattle.std.proofs.Common.{sym, ap, ◌∙◌, arith, rules}
+use Rattle.std.proofs.Common.{sym, ap, ◌∙◌, arith}
 use Rattle.map.proofs.FieldLaws.{bind-bad, bind-good}
 use Rattle.map.specs.Format.{read_map}
 use Rattle.map.specs.Answers.{field_means, field_value, counted_area, seek}

@@ -1,7 +1,7 @@
 -- `map::parts::first_fault`: one cell a turn, up to the one with a fault. Assumes nothing.
-use Rattle.std.proofs.Common.{◌-◌, sym, ap, ◌∙◌, arith, rules}
+use Rattle.std.proofs.Common.{sym, ap, ◌∙◌, arith}
 use Rattle.map.specs.Answers.{cell_means}
-use Rattle.map.proofs.ShortLaws.{Left, left-starts, left-turns, left-stops, left-ends}
+use Rattle.map.proofs.ShortLaws.{left-starts, left-turns, left-stops, left-ends}
 use Rattle.map.proofs.parts.first_fault.Goals as goal
 
 pub loop-k-init : goal.loop-k-init

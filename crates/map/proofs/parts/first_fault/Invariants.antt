@@ -1,7 +1,6 @@
 -- `map::parts::first_fault`: one cell a turn, up to the one with a fault. Assumes nothing.
-use Rattle.std.proofs.Common.{◌-◌, sym, ap, ◌∙◌, arith, rules}
-use Rattle.map.specs.Answers.{cell_means}
-use Rattle.map.proofs.ShortLaws.{Left, left-starts, left-turns, left-stops, left-ends}
+use Rattle.std.proofs.Common.{◌-◌}
+use Rattle.map.proofs.ShortLaws.{Left}
 use Rattle.map.proofs.parts.first_fault.Given as goal
 
 abbrev pub invariant-loop-k : goal.invariant-loop-k

@@ -1,32 +1,13 @@
 -- `map::parts::head_at`: four fields, one after another. Assumes nothing.
-use Rattle.std.proofs.Common.{◌≡◌, sym, ap, ◌∙◌, arith, rules}
+use Rattle.std.proofs.Common.{sym, ap, ◌∙◌, arith}
 use Rattle.map.proofs.FieldLaws.{bind-bad, bind-good}
-use Rattle.map.specs.Reading.{good}
-use Rattle.map.specs.Format.{number_field, weight_field, size_field, read_head}
+use Rattle.map.specs.Format.{read_head}
 use Rattle.map.specs.Answers.{field_means, field_value}
 use Rattle.map.proofs.parts.head_at.Goals as goal
 
 pub overflow_cast-result : goal.overflow_cast-result
 overflow_cast-result c =
     omega (arith, c.number_field.ensures.1, ap field_value c.in-Good.is)
-
-number_read : (c : goal.In-Good) →
-    let a = c.args in
-    let v = c.number-1.given.0 in
-    good v.0 v.1.0 ≡ number_field a.s.now a.before a.at
-number_read c = sym (ap field_means c.in-Good.is) ∙ c.number_field.ensures.0
-
-weight-read : (c : goal.In-Good-u32_field) →
-    let s = c.args.s in
-    let v = c.weight-1.given.0 in
-    good v.0 v.1.0 ≡ weight_field s.now c.in-Good.a
-weight-read c = sym (ap field_means c.in-Good-u32_field.is) ∙ c.u32_field.ensures.0
-
-rows-read : (c : goal.In-Good-size_field) →
-    let s = c.args.s in
-    let v = c.rows-1.given.0 in
-    good v.0 v.1.0 ≡ size_field s.now c.in-Good-u32_field.b
-rows-read c = sym (ap field_means c.in-Good-size_field.is) ∙ c.size_field.ensures.0
 
 pub returns-in-Bad : goal.returns-in-Bad
 unfolding read_head
@@ -35,26 +16,35 @@ returns-in-Bad c = (bind-bad _ (sym (ap field_means c.in-Bad.is) ∙ c.number_fi
 pub returns-in-Bad-u32_field : goal.returns-in-Bad-u32_field
 unfolding read_head
 returns-in-Bad-u32_field c =
+    let number = sym (ap field_means c.in-Good.is) ∙ c.number_field.ensures.0 in
     let weight = sym (ap field_means c.in-Bad-u32_field.is) ∙ c.u32_field.ensures.0 in
-    (bind-bad _ weight ∙ bind-good _ (number_read c.before.before.before.before), tt)
+    (bind-bad _ weight ∙ bind-good _ number, tt)
 
 pub returns-in-Bad-size_field : goal.returns-in-Bad-size_field
 unfolding read_head
 returns-in-Bad-size_field c =
+    let number = sym (ap field_means c.in-Good.is) ∙ c.number_field.ensures.0 in
+    let weight = sym (ap field_means c.in-Good-u32_field.is) ∙ c.u32_field.ensures.0 in
     let rows = sym (ap field_means c.in-Bad-size_field.is) ∙ c.size_field.ensures.0 in
-    (bind-bad _ rows ∙ bind-good _ (weight-read c.before.before.before.before) ∙ bind-good _ (number_read c.before.before.before.before.before.before.before.before), tt)
+    (bind-bad _ rows ∙ bind-good _ weight ∙ bind-good _ number, tt)
 
 pub returns-in-Bad-size_field-2 : goal.returns-in-Bad-size_field-2
 unfolding read_head
 returns-in-Bad-size_field-2 c =
+    let number = sym (ap field_means c.in-Good.is) ∙ c.number_field.ensures.0 in
+    let weight = sym (ap field_means c.in-Good-u32_field.is) ∙ c.u32_field.ensures.0 in
+    let rows = sym (ap field_means c.in-Good-size_field.is) ∙ c.size_field.ensures.0 in
     let columns = sym (ap field_means c.in-Bad-size_field-2.is) ∙ c.size_field-in-Good-size_field.ensures.0 in
-    (bind-bad _ columns ∙ bind-good _ (rows-read c.before.before.before.before) ∙ bind-good _ (weight-read c.before.before.before.before.before.before.before.before) ∙ bind-good _ (number_read c.before.before.before.before.before.before.before.before.before.before.before.before), tt)
+    (bind-bad _ columns ∙ bind-good _ rows ∙ bind-good _ weight ∙ bind-good _ number, tt)
 
 pub returns-in-Good-size_field-2 : goal.returns-in-Good-size_field-2
 unfolding read_head
 returns-in-Good-size_field-2 c =
+    let number = sym (ap field_means c.in-Good.is) ∙ c.number_field.ensures.0 in
+    let weight = sym (ap field_means c.in-Good-u32_field.is) ∙ c.u32_field.ensures.0 in
+    let rows = sym (ap field_means c.in-Good-size_field.is) ∙ c.size_field.ensures.0 in
     let columns = sym (ap field_means c.in-Good-size_field-2.is) ∙ c.size_field-in-Good-size_field.ensures.0 in (
-      bind-good _ columns ∙ bind-good _ (rows-read c.before.before.before.before) ∙ bind-good _ (weight-read c.before.before.before.before.before.before.before.before) ∙ bind-good _ (number_read c.before.before.before.before.before.before.before.before.before.before.before.before),
+      bind-good _ columns ∙ bind-good _ rows ∙ bind-good _ weight ∙ bind-good _ number,
       (
         omega (arith, c.size_field.ensures.1, ap field_value c.in-Good-size_field.is),
         omega (arith, c.size_field-in-Good-size_field.ensures.1, ap field_value c.in-Good-size_field-2.is),

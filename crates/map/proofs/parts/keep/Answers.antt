@@ -1,5 +1,5 @@
 -- `map::parts::keep`: by what is found so far. Assumes nothing.
-use Rattle.std.proofs.Common.{sym, ap, ◌∙◌, rules, eq-eqb, ne_eqb}
+use Rattle.std.proofs.Common.{sym, ap, ◌∙◌, eq-eqb, ne_eqb}
 use Rattle.lists.proofs.Tests.{takes, leaves}
 use Rattle.map.specs.declared.parts.Sought.{Sought}
 use Rattle.map.specs.Answers.{kept}

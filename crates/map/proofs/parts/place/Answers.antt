@@ -1,5 +1,5 @@
 -- `map::parts::place`: past the map's end no bit stands. Assumes nothing.
-use Rattle.std.proofs.Common.{◌+◌, ◌/◌, length, arith, rules}
+use Rattle.std.proofs.Common.{◌+◌, ◌/◌, length, arith}
 use Rattle.lists.proofs.Tests.{leaves}
 use Rattle.map.specs.Format.{read_place}
 use Rattle.map.proofs.FieldLaws.{room, no_room, bit_past}

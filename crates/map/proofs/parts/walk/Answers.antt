@@ -1,8 +1,6 @@
 -- `map::parts::walk`: the walk over the rows, one row a turn. Assumes nothing.
-use Rattle.std.proofs.Common.{◌-◌, sym, ap, ◌∙◌, subst, arith, rules}
-use Rattle.map.proofs.LoopLaws.{Walk, grid-adds, walk-starts, walk-stops, walk-turns, walk_ends, small-more}
-use Rattle.map.specs.Format.{read_row}
-use Rattle.map.specs.Counting.{row_counts, grid_counts}
+use Rattle.std.proofs.Common.{sym, ap, ◌∙◌, subst, arith}
+use Rattle.map.proofs.LoopLaws.{grid-adds, walk-starts, walk-stops, walk-turns, walk_ends, small-more}
 use Rattle.map.specs.Answers.{tally_means, TallySmall}
 use Rattle.map.proofs.parts.walk.Goals as goal
 
@@ -29,10 +27,10 @@ loop-i-smaller c =
 pub loop-i-preserved : goal.loop-i-preserved
 loop-i-preserved c =
     let p = c.requires in
-    let g = c.c-1.given in
-    let read = sym (ap tally_means g.1) ∙ c.row.ensures.0 in
+    let is = c.in-Good.is in
+    let read = sym (ap tally_means is) ∙ c.row.ensures.0 in
     walk-turns c.loop-i.invariant c.loop-i-test.true (omega (arith, p)) read
-    (small-more p.0 (subst (TallySmall _) g.1 c.row.ensures.1)) c.plus-sum.ensures
+    (small-more p.0 (subst (TallySmall _) is c.row.ensures.1)) c.plus-sum.ensures
 
 pub returns : goal.returns
 returns c =

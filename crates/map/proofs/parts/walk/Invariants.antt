@@ -1,9 +1,8 @@
 -- `map::parts::walk`: the walk over the rows, one row a turn. Assumes nothing.
-use Rattle.std.proofs.Common.{◌-◌, sym, ap, ◌∙◌, subst, arith, rules}
-use Rattle.map.proofs.LoopLaws.{Walk, grid-adds, walk-starts, walk-stops, walk-turns, walk_ends, small-more}
+use Rattle.std.proofs.Common.{◌-◌}
+use Rattle.map.proofs.LoopLaws.{Walk, grid-adds}
 use Rattle.map.specs.Format.{read_row}
 use Rattle.map.specs.Counting.{row_counts, grid_counts}
-use Rattle.map.specs.Answers.{tally_means, TallySmall}
 use Rattle.map.proofs.parts.walk.Given as goal
 
 abbrev pub invariant-loop-i : goal.invariant-loop-i

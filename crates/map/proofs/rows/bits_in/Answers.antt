@@ -1,5 +1,5 @@
 -- `map::rows::bits_in`: a byte has eight bits. Assumes nothing.
-use Rattle.std.proofs.Common.{ap, rules}
+use Rattle.std.proofs.Common.{ap}
 use lib.Count.{ones, ones-le}
 use Rattle.map.proofs.rows.bits_in.Goals as goal
 

@@ -1,7 +1,7 @@
 -- `map::rows::cells_in`: at byte k, the bits of the bytes before it are counted. Assumes nothing.
-use Rattle.std.proofs.Common.{◌≡◌, ℕ, ◌+◌, ◌-◌, ◌*◌, ap, ◌∙◌, arith, rules}
+use Rattle.std.proofs.Common.{◌≡◌, ℕ, ◌*◌, ap, ◌∙◌, arith, rules}
 use Rattle.map.specs.Cells.{bits_from}
-use Rattle.map.proofs.RowLoops.{Counted, count-starts, count-turns}
+use Rattle.map.proofs.RowLoops.{count-starts, count-turns}
 use Rattle.map.proofs.rows.cells_in.Goals as goal
 
 pub loop-k-init : goal.loop-k-init
@@ -19,7 +19,7 @@ overflow_add-n c = omega (arith, c.loop-k.invariant, c.bits_in-n.ensures.1, c.re
 pub loop-k-preserved : goal.loop-k-preserved
 loop-k-preserved c =
     let a = c.args in
-    count-turns c.loop-k.invariant c.loop-k-test.true (c.shared_slice_known-in-loop-k-1.given (a.at + c.loop-k.k)).fits
+    count-turns c.loop-k.invariant c.loop-k-test.true (search rules)
     c.bits_in-n.ensures.0 c.bits_in-n.ensures.1
 
 pub returns : goal.returns

@@ -1,7 +1,6 @@
 -- `map::rows::cells_in`: at byte k, the bits of the bytes before it are counted. Assumes nothing.
-use Rattle.std.proofs.Common.{◌≡◌, ℕ, ◌+◌, ◌-◌, ◌*◌, ap, ◌∙◌, arith, rules}
-use Rattle.map.specs.Cells.{bits_from}
-use Rattle.map.proofs.RowLoops.{Counted, count-starts, count-turns}
+use Rattle.std.proofs.Common.{◌-◌}
+use Rattle.map.proofs.RowLoops.{Counted}
 use Rattle.map.proofs.rows.cells_in.Given as goal
 
 abbrev pub invariant-loop-k : goal.invariant-loop-k

@@ -1,7 +1,6 @@
 -- `map::rows::lay_cells`: at cell k, the fields of the cells before it are laid. Assumes nothing.
-use Rattle.std.proofs.Common.{◌+◌, ◌-◌, ◌*◌, ◌≤◌, pos, ◌∙◌, arith, to_z-of_z, rules}
-use Rattle.lists.proofs.InPlace.{Filled, fill-starts, fill-turns}
-use Rattle.map.specs.Cells.{cell_at}
+use Rattle.std.proofs.Common.{◌+◌, ◌*◌, ◌∙◌, arith, to_z-of_z, w32}
+use Rattle.lists.proofs.InPlace.{fill-starts, fill-turns}
 use Rattle.map.proofs.RowLoops.{people-is, latitude-is, longitude-is}
 use Rattle.map.proofs.rows.lay_cells.Goals as goal
 
@@ -20,9 +19,9 @@ loop-k-preserved c =
       omega (arith, taken),
       fill-turns _ _ l.invariant.1 (omega (arith, taken, c.requires)) (people-is s at c.quad.ensures),
       fill-turns _ _ l.invariant.2 (omega (arith, taken, c.requires))
-          (latitude-is s at (to_z-of_z (record { sfits = x.type-inv }) ∙ x.ensures) c.quad-in-loop-k.ensures),
+          (latitude-is s at (to_z-of_z {w = w32} (record { sfits = x.type_inv }) ∙ x.ensures) c.quad-in-loop-k.ensures),
       fill-turns _ _ l.invariant.3 (omega (arith, taken, c.requires))
-          (longitude-is s at (to_z-of_z (record { sfits = y.type-inv }) ∙ y.ensures) c.quad-in-loop-k-2.ensures),
+          (longitude-is s at (to_z-of_z {w = w32} (record { sfits = y.type_inv }) ∙ y.ensures) c.quad-in-loop-k-2.ensures),
     )
 
 pub shape_of-people : goal.shape_of-people

@@ -1,8 +1,7 @@
 -- `map::rows::lay_cells`: at cell k, the fields of the cells before it are laid. Assumes nothing.
-use Rattle.std.proofs.Common.{◌+◌, ◌-◌, ◌*◌, ◌≤◌, pos, ◌∙◌, arith, to_z-of_z, rules}
-use Rattle.lists.proofs.InPlace.{Filled, fill-starts, fill-turns}
+use Rattle.std.proofs.Common.{◌+◌, ◌-◌, ◌*◌, ◌≤◌, pos}
+use Rattle.lists.proofs.InPlace.{Filled}
 use Rattle.map.specs.Cells.{cell_at}
-use Rattle.map.proofs.RowLoops.{people-is, latitude-is, longitude-is}
 use Rattle.map.proofs.rows.lay_cells.Given as goal
 
 abbrev pub invariant-loop-k : goal.invariant-loop-k

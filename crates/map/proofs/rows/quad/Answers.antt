@@ -1,5 +1,5 @@
 -- `map::rows::quad`: four bytes, each by its weight. Assumes nothing.
-use Rattle.std.proofs.Common.{◌+◌, ◌*◌, ◌∙◌, rules}
+use Rattle.std.proofs.Common.{◌+◌, ◌*◌, ◌∙◌}
 use Rattle.map.proofs.RowLoops.{quad_is}
 use Rattle.map.proofs.rows.quad.Goals as goal
 

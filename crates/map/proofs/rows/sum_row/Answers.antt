@@ -1,7 +1,7 @@
 -- `map::rows::sum_row`: at cell k, the cells before it are tested and their people summed. Assumes nothing.
-use Rattle.std.proofs.Common.{◌+◌, ◌-◌, ◌*◌, ◌∙◌, to_z-of_z, rules}
+use Rattle.std.proofs.Common.{◌+◌, ◌*◌, ◌∙◌, to_z-of_z, w32}
 use Rattle.map.specs.Cells.{cell_at}
-use Rattle.map.proofs.RowLoops.{people-is, latitude-is, longitude-is, same-cell, Summed, sum-starts, sum-turns, sum-ends}
+use Rattle.map.proofs.RowLoops.{people-is, latitude-is, longitude-is, same-cell, sum-starts, sum-turns, sum-ends}
 use Rattle.map.proofs.rows.sum_row.Goals as goal
 
 pub loop-k-init : goal.loop-k-init
@@ -17,9 +17,9 @@ loop-k-preserved c =
     let at = a.at + 12 * l.k in
     sum-turns l.invariant c.loop-k-test.true c.within-fine.ensures
     (same-cell _ (cell_at s at) (people-is s at c.quad-p.ensures)
-    (latitude-is s at (to_z-of_z (record { sfits = x.type-inv }) ∙ x.ensures) c.quad.ensures)
-    (longitude-is s at (to_z-of_z (record { sfits = y.type-inv }) ∙ y.ensures) c.quad-in-loop-k.ensures))
-    c.wrapping_add_u32-people.ensures
+    (latitude-is s at (to_z-of_z {w = w32} (record { sfits = x.type_inv }) ∙ x.ensures) c.quad.ensures)
+    (longitude-is s at (to_z-of_z {w = w32} (record { sfits = y.type_inv }) ∙ y.ensures) c.quad-in-loop-k.ensures))
+    c.wrapping_add_u32-people.ensures.value
 
 pub returns : goal.returns
 returns c = sum-ends c.loop-k.invariant c.loop-k-test.false c.requires.1

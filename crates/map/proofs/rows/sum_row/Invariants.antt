@@ -1,7 +1,6 @@
 -- `map::rows::sum_row`: at cell k, the cells before it are tested and their people summed. Assumes nothing.
-use Rattle.std.proofs.Common.{◌+◌, ◌-◌, ◌*◌, ◌∙◌, to_z-of_z, rules}
-use Rattle.map.specs.Cells.{cell_at}
-use Rattle.map.proofs.RowLoops.{people-is, latitude-is, longitude-is, same-cell, Summed, sum-starts, sum-turns, sum-ends}
+use Rattle.std.proofs.Common.{◌-◌}
+use Rattle.map.proofs.RowLoops.{Summed}
 use Rattle.map.proofs.rows.sum_row.Given as goal
 
 abbrev pub invariant-loop-k : goal.invariant-loop-k

@@ -1,5 +1,5 @@
 -- `map::rows::within`: the three limits of a cell. Assumes nothing.
-use Rattle.std.proofs.Common.{◌&&◌, leb, ap, ◌∙◌, to_z-of_z, rules}
+use Rattle.std.proofs.Common.{◌&&◌, leb, ap, ◌∙◌, to_z-of_z}
 use Rattle.units.specs.Coordinates.{is_latitude, is_longitude}
 use Rattle.map.specs.Cells.{cell_within}
 use Rattle.map.proofs.rows.within.Goals as goal

@@ -1,6 +1,5 @@
 -- `map::parts::Counts::plus`: each count by its own unit's sum. Assumes nothing.
 use Rattle.map.specs.Counting.{counts}
-use Rattle.std.proofs.Common.{rules}
 use Rattle.map.proofs.parts.Counts.plus.Goals as goal
 
 pub returns : goal.returns
