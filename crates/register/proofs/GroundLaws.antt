@@ -24,7 +24,7 @@ use Rattle.register.specs.declared.FlatLicence.{FlatLicence}
 use Rattle.register.specs.declared.Boxes.{Boxes}
 use Rattle.register.specs.Licences.{licence_of, free_place, has_sign, in_force}
 use Rattle.register.specs.Sums.{at_place, passes_at}
-use Rattle.register.specs.Grounds.{is_box, has_box, no_box, box_of, place_box, box_from, EdgesDone, BoxesDone}
+use Rattle.register.specs.Grounds.{names, is_box, has_box, no_box, box_of, place_box, box_from, EdgesDone, BoxesDone}
 use Rattle.register.proofs.Laws.{sign-is, sign-not}
 use Rattle.register.proofs.Sums.{in-force-total}
 
@@ -76,6 +76,13 @@ module _ {most : ℕ} {f : Licence → ℕ} {ps : List FlatLicence} {i sum : ℕ
 
   pub count-ends : length ps ≤ i → sum ≡ total f (in_force ps)
   count-ends b = w.is ∙ ap (total (λ p. at_place f (licence_of p))) (take_all i ps b) ∙ sym (in-force-total f ps)
+
+-- what a licence in force with the area of a number adds to the count, and to the sum of the widths
+abbrev pub named : ℕ → Licence → ℕ
+named number l = flag (names number l)
+
+abbrev pub named_width : ℕ → Licence → ℕ
+named_width number l = l.width * named number l
 
 -- ---- the last place with a box in force
 
@@ -214,6 +221,12 @@ module _ {ps : List FlatLicence} {n i : ℕ} {edges : List ℤ} (w : Filled ps n
 
   pub fill-ends : n ≤ i → EdgesDone ps n edges
   fill-ends h = record { size = w.size; each = λ j k. w.each j (omega arith); rest = w.rest }
+
+-- ---- the widths
+
+-- the width at a place, whatever stood there
+abbrev pub width_at : List FlatLicence → ℕ → ℕ → ℕ
+width_at ps i _ = (licence_of (get_or ps i free_place)).width
 
 -- ---- the boxes that pass a test
 

@@ -1,7 +1,6 @@
 -- `register::box_in_force` meets its contract: by the call sign, then by the kind of ground. Assumes nothing.
 use mathlib.Core.Path.{sym, ap, ◌∙◌}
 use mathlib.Core.Bool.{true}
-use borrow.Author.Rules.{rules}
 use Rattle.register.specs.Grounds.{is_box, has_box}
 use Rattle.register.proofs.GroundLaws.{free-passes, held-passes}
 use Rattle.register.proofs.box_in_force.Goals as goal

@@ -1,6 +1,5 @@
 -- `register::ground_formed` meets its contract: by the two kinds of ground. Assumes nothing.
 use mathlib.Core.Path.{◌∙◌}
-use borrow.Author.Rules.{rules}
 use borrow.Author.Tests.{le-leb, lt-leb}
 use Rattle.register.specs.Licences.{ground_formed}
 use Rattle.register.proofs.ground_formed.Goals as goal

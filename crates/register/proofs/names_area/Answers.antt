@@ -2,7 +2,6 @@
 use mathlib.Core.Path.{sym, ap, ◌∙◌}
 use native.Mathlib.Omega.{arith}
 use borrow.Author.Tests.{eq-eqb, ne_eqb}
-use borrow.Author.Rules.{rules}
 use Rattle.lists.specs.Sums.{flag}
 use Rattle.register.specs.declared.Ground.{Ground}
 use Rattle.register.specs.Grounds.{is_area, names}

@@ -1,6 +1,5 @@
 -- `register::place_box` meets its contract: by the call sign, then by the kind of ground. Assumes nothing.
 use mathlib.Core.Path.{sym, ap}
-use borrow.Author.Rules.{rules}
 use Rattle.register.specs.Grounds.{box_of, place_box}
 use Rattle.register.proofs.Laws.{sign-is, sign-not}
 use Rattle.register.proofs.place_box.Goals as goal

@@ -1,6 +1,5 @@
 -- `register::well_formed` meets its contract: the call sign is tested first, and the calls tell of the ground and of the width.
 -- Assumes nothing.
-use borrow.Author.Rules.{rules}
 use borrow.Author.Tests.{eq-eqb, ne_eqb}
 use Rattle.register.specs.Licences.{well_formed}
 use Rattle.register.proofs.well_formed.Goals as goal

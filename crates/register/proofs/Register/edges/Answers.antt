@@ -1,12 +1,11 @@
 -- `register::Register::edges` meets its contract: the four edges of a box a turn. Assumes nothing.
-use Prim.Native.Nat.{◌-◌}
 use mathlib.Core.Path.{◌≡◌, ap, ◌∙◌}
 use mir.Syntax.{w32}
 use mir.Val.{to_z, of_z}
 use borrow.Author.Rules.{rules}
 use Rattle.register.specs.declared.GeoBox.{GeoBox}
 use Rattle.register.specs.Grounds.{place_box}
-use Rattle.register.proofs.GroundLaws.{Filled, fill-starts, fill-turns, fill-ends}
+use Rattle.register.proofs.GroundLaws.{fill-starts, fill-turns, fill-ends}
 use Rattle.register.proofs.Register.edges.Goals as goal
 
 pub loop-i-init : goal.loop-i-init

@@ -1,6 +1,5 @@
 -- `register::Register::grant` meets its contract: the answer is that of the step's number. Assumes nothing.
-use mathlib.Core.Path.{◌≡◌, sym, ap, ◌∙◌}
-use borrow.Author.Rules.{rules}
+use Rattle.std.proofs.Common.{◌≡◌, sym, ap, ◌∙◌}
 use Rattle.register.specs.Licences.{in_force}
 use Rattle.register.specs.Rules.{grant_number, grant_answer}
 use Rattle.register.proofs.Laws.{grant-number}

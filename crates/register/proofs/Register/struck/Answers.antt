@@ -1,30 +1,25 @@
 -- `register::Register::struck` meets its contract: the loop takes over the places of the call sign. Assumes nothing.
-use Prim.Native.Nat.{◌-◌}
-use mathlib.Core.Path.{◌≡◌, sym, ap, ◌∙◌}
-use mathlib.Core.Logic.{⊎_elim}
-use native.Mathlib.Omega.{arith}
-use lib.ListN.{length, length-map}
-use borrow.Author.Rules.{rules}
+use Rattle.std.proofs.Common.{◌≡◌, length, ap, arith}
+use Rattle.register.specs.declared.Register.{Register}
 use Rattle.register.specs.Rules.{limit}
-use Rattle.register.proofs.StruckLaws.{Gathered, gather-starts, gather-takes, gather-leaves, gather-ends}
+use Rattle.register.proofs.StruckLaws.{gather-starts, gather-takes, gather-leaves, gather-ends}
 use Rattle.register.proofs.Register.struck.Goals as goal
-
--- the array of places has the length that its type says
-long : (c : goal.Start) → length c.args.self.places ≡ limit
-long c = sym (length-map c.args.self.places _) ∙ c.well_formed.0.1.1.0.1.0.1
+use Rattle.register.proofs.Register.struck.Goals.{then-p-call_sign, else-p-call_sign}
 
 pub loop-i-init : goal.loop-i-init
-loop-i-init c = gather-starts c.args.call-sign c.args.self.places c.empty-only.result.places c.empty-only.ensures
+loop-i-init c = gather-starts c.args.call_sign c.args.self.places c.empty-only.result.places c.empty-only.ensures
 
 pub loop-i-preserved : goal.loop-i-preserved
 loop-i-preserved c =
-    let n = long c.before.before.before.before.before.before in
+    let n : length c.args.self.places ≡ limit = omega arith in
     let g = c.loop-i.invariant in
     let b = c.loop-i-test.true in
-    ⊎_elim
-    (λ x. gather-takes n g b x.0.taken (ap (λ r. r.places) x.1) x.2)
-    (λ x. gather-leaves n g b x.0.left (ap (λ r. r.places) x.1) x.2)
-    c.if-p-call_sign.branch
+    elim c.if-p-call_sign.branch [
+      | then-p-call_sign w ↦ gather-takes n g b w.if-p-call_sign.true (ap (λ (r : Register). r.places) w.only-is) w.count-is
+      | else-p-call_sign w ↦ gather-leaves n g b w.if-p-call_sign.false (ap (λ (r : Register). r.places) w.only-is) w.count-is
+    ]
 
 pub returns : goal.returns
-returns c = gather-ends (long c.before.before.before) c.loop-i.invariant c.loop-i-test.false
+returns c =
+    let n : length c.args.self.places ≡ limit = omega arith in
+    gather-ends n c.loop-i.invariant c.loop-i-test.false

@@ -1,12 +1,7 @@
 -- `register::Register::struck` meets its contract: the loop takes over the places of the call sign. Assumes nothing.
 use Prim.Native.Nat.{◌-◌}
-use mathlib.Core.Path.{◌≡◌, sym, ap, ◌∙◌}
-use mathlib.Core.Logic.{⊎_elim}
-use native.Mathlib.Omega.{arith}
-use lib.ListN.{length, length-map}
-use borrow.Author.Rules.{rules}
 use Rattle.register.specs.Rules.{limit}
-use Rattle.register.proofs.StruckLaws.{Gathered, gather-starts, gather-takes, gather-leaves, gather-ends}
+use Rattle.register.proofs.StruckLaws.{Gathered}
 use Rattle.register.proofs.Register.struck.Given as goal
 
 abbrev pub invariant-loop-i : goal.invariant-loop-i

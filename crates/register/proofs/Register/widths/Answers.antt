@@ -1,18 +1,9 @@
 -- `register::Register::widths` meets its contract: an array of zeros, rewritten in place from its front. Assumes nothing.
-use Prim.Native.Nat.{ℕ, ◌-◌, ◌≤◌}
-use mathlib.Core.Path.{◌∙◌}
-use mathlib.Core.List.{List}
-use native.Mathlib.Omega.{arith}
-use lib.ListN.{get_or, replicate, length-replicate}
-use borrow.Author.Rules.{rules}
-use Rattle.lists.proofs.InPlace.{Rewritten, starts, turns, zeros-at}
-use Rattle.register.specs.declared.FlatLicence.{FlatLicence}
-use Rattle.register.specs.Licences.{licence_of, free_place}
+use Rattle.std.proofs.Common.{ℕ, replicate, ◌∙◌, arith}
+use Rattle.std.proofs.lemmas.List.{length-replicate}
+use Rattle.lists.proofs.InPlace.{starts, turns, zeros-at}
+use Rattle.register.proofs.GroundLaws.{width_at}
 use Rattle.register.proofs.Register.widths.Goals as goal
-
--- the width at a place, whatever stood there
-abbrev width_at : List FlatLicence → ℕ → ℕ → ℕ
-width_at ps i _ = (licence_of (get_or ps i free_place)).width
 
 pub loop-i-init : goal.loop-i-init
 loop-i-init c = (omega arith, starts (width_at c.args.self.places) (replicate 64 0))

@@ -1,13 +1,7 @@
 -- `register::Register::widths` meets its contract: an array of zeros, rewritten in place from its front. Assumes nothing.
-use Prim.Native.Nat.{ℕ, ◌-◌, ◌≤◌}
-use mathlib.Core.Path.{◌∙◌}
-use mathlib.Core.List.{List}
-use native.Mathlib.Omega.{arith}
-use lib.ListN.{get_or, replicate, length-replicate}
-use borrow.Author.Rules.{rules}
-use Rattle.lists.proofs.InPlace.{Rewritten, starts, turns, zeros-at}
-use Rattle.register.specs.declared.FlatLicence.{FlatLicence}
-use Rattle.register.specs.Licences.{licence_of, free_place}
+use Rattle.std.proofs.Common.{◌-◌, ◌≤◌, replicate}
+use Rattle.lists.proofs.InPlace.{Rewritten}
+use Rattle.register.proofs.GroundLaws.{width_at}
 use Rattle.register.proofs.Register.widths.Given as goal
 
 abbrev pub invariant-loop-i : goal.invariant-loop-i
