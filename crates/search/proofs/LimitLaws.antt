@@ -1,12 +1,12 @@
 -- The test of the limits passes where they hold, and there alone. Assumes nothing.
 use Prim.Native.Nat.{ℕ, zero, suc, ◌+◌, ◌<◌, ◌≤◌}
 use mathlib.Core.Path.{◌≡◌, refl, sym, ap, ◌∙◌}
-use mathlib.Core.Bool.{Bool, true, false, not, ◌&&◌}
+use mathlib.Core.Bool.{Bool, true, false, ◌&&◌}
 use mathlib.Core.List.{List, [], ◌∷◌}
 use native.Mathlib.Omega.{arith}
 use lib.Dec.{leb, eqb}
 use lib.ListN.{length, get_or, drop, drop_of_length-le}
-use borrow.Author.Tests.{le-leb, lt-leb, leb-true, eq-eqb, ne_eqb, eqb-true, not-false}
+use borrow.Author.Tests.{le-leb, lt-leb, leb-true, eq-eqb, ne_eqb, eqb-true}
 use Rattle.lists.proofs.SumLaws.{drop-next}
 use Rattle.lists.proofs.Tests.{both, not_first, not-second, first_of, second-of}
 use Rattle.search.specs.Choice.{largest_size, largest_weight}
@@ -76,9 +76,9 @@ pass-limits ms ws h =
       weights = at-most-each largest_weight ws (second-of (at_most largest_size ms) (at_most largest_weight ws) small);
     }
 
--- past an answer of the test that is not false
-pub past-test : (ms ws : List ℕ) (b : Bool) → b ≡ in_limits ms ws → not b ≡ false → Limits ms ws
-past-test ms ws b e h = pass-limits ms ws (sym e ∙ not-false b h)
+-- past an answer of the test that is true
+pub past-test : (ms ws : List ℕ) (b : Bool) → b ≡ in_limits ms ws → b ≡ true → Limits ms ws
+past-test ms ws b e h = pass-limits ms ws (sym e ∙ h)
 
 -- the tests in turn
 module _ (ms ws : List ℕ) where

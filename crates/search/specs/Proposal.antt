@@ -1,5 +1,6 @@
 -- Document 01, "The proposal": the answer that the tables of the search give. Assumes nothing.
-use Rattle.std.specs.Prelude.{ℕ, zero, suc, ◌+◌, ◌%◌, ◌≤◌, ◌≡◌, Bool, true, false, cond, ◌&&◌, List, [], ◌∷◌, ◌++◌, ltb, leb, eqb, length, get_or, take, replicate}
+use Rattle.std.specs.Prelude.{ℕ, zero, suc, ◌+◌, ◌%◌, ◌≤◌, ◌≡◌, Bool, true, false, cond, ◌&&◌, ltb, leb, eqb}
+use Rattle.std.specs.Prelude.{List, [], ◌∷◌, ◌++◌, length, get_or, take, replicate}
 use Rattle.search.specs.declared.Rank.{Rank}
 use Rattle.search.specs.declared.Answer.{Answer}
 use Rattle.search.specs.Search.{Kept, searched}

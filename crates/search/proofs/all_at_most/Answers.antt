@@ -1,9 +1,6 @@
 -- `search::all_at_most`: the values before i are at most the bound, and i grows. Assumes nothing.
-use Prim.Native.Nat.{◌-◌}
 use native.Mathlib.Omega.{arith}
-use lib.ListN.{length}
-use borrow.Author.Rules.{rules}
-use Rattle.search.proofs.LimitLaws.{Checking, starts, stops, turns, ends}
+use Rattle.search.proofs.LimitLaws.{starts, stops, turns, ends}
 use Rattle.search.proofs.all_at_most.Goals as goal
 
 pub loop-i-init : goal.loop-i-init

@@ -2,7 +2,6 @@
 use Prim.Native.Nat.{ℕ}
 use mathlib.Core.Path.{ap}
 use lib.ListN.{get_or}
-use borrow.Author.Rules.{rules}
 use Rattle.search.specs.declared.Answer.{Answer}
 use Rattle.search.specs.Proposal.{answer_at}
 use Rattle.search.proofs.answer_at.Goals as goal

@@ -1,6 +1,5 @@
 -- `search::best_at`: an entry that holds a choice is compared with every entry, one that holds none is not best. Assumes nothing.
 use mathlib.Core.Path.{sym, ◌∙◌}
-use borrow.Author.Rules.{rules}
 use Rattle.search.proofs.Select.{best-held, best_none}
 use Rattle.search.proofs.best_at.Goals as goal
 

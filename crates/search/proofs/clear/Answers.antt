@@ -3,7 +3,7 @@ use mathlib.Core.Path.{refl, sym, ap, ◌∙◌}
 use native.Mathlib.Omega.{arith}
 use Rattle.search.specs.declared.Rank.{Rank}
 use Rattle.search.specs.Choice.{ahead}
-use Rattle.search.proofs.Select.{Passed, clear-stop, clear-past, clear-empty, clear_none}
+use Rattle.search.proofs.Select.{clear-stop, clear-past, clear-empty, clear_none}
 use Rattle.search.proofs.clear.Goals as goal
 
 pub loop-i-init : goal.loop-i-init

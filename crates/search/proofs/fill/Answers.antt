@@ -1,10 +1,7 @@
 -- `search::fill`: after i areas entry 0 and the i entries after it are filled; the areas to come get fewer. Assumes nothing.
-use Prim.Native.Nat.{◌-◌}
 use mathlib.Core.Path.{sym, ◌∙◌}
 use native.Mathlib.Omega.{arith}
-use lib.ListN.{length}
-use borrow.Author.Rules.{rules}
-use Rattle.search.proofs.Tables.{Filled, fill-starts, fill-turns, fill-ends}
+use Rattle.search.proofs.Tables.{fill-starts, fill-turns, fill-ends}
 use Rattle.search.proofs.fill.Goals as goal
 
 pub bounds-white-0 : goal.bounds-white-0

@@ -1,9 +1,7 @@
 -- `search::find_ties`: after i areas the places written are the tied entries up to i; the areas not seen get fewer. Assumes nothing.
-use Prim.Native.Nat.{◌-◌}
 use mathlib.Core.Path.{refl, sym, ◌∙◌}
 use native.Mathlib.Omega.{arith}
-use lib.ListN.{length}
-use Rattle.search.proofs.Select.{Seen, seen-starts, seen-ends, tied-skip, tied-write}
+use Rattle.search.proofs.Select.{seen-starts, seen-ends, tied-skip, tied-write}
 use Rattle.search.proofs.find_ties.Goals as goal
 
 pub loop-i-init : goal.loop-i-init

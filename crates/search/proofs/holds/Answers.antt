@@ -3,7 +3,6 @@ use Prim.Native.Nat.{ℕ}
 use mathlib.Core.Path.{sym, ap}
 use lib.Dec.{ltb}
 use lib.ListN.{get_or}
-use borrow.Author.Rules.{rules}
 use Rattle.search.specs.Proposal.{present}
 use Rattle.search.proofs.Select.{get_or-zero, get_or-pred}
 use Rattle.search.proofs.holds.Goals as goal

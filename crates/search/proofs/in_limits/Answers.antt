@@ -1,8 +1,6 @@
 -- `search::in_limits`: the tests in turn are the definition's. Assumes nothing.
 use mathlib.Core.Path.{sym, ◌∙◌}
 use native.Mathlib.Omega.{arith}
-use borrow.Author.Rules.{rules}
-use borrow.Author.Tests.{not-true, not-false}
 use Rattle.search.proofs.LimitLaws.{too_many, unpaired, too_large, by_weights}
 use Rattle.search.proofs.in_limits.Goals as goal
 
@@ -20,11 +18,11 @@ pub returns-then-not-all_at_most : goal.returns-then-not-all_at_most
 returns-then-not-all_at_most c =
     let a = c.args in
     too_large a.sizes.now a.weights.now c.if-sizes-gt20.false c.if-weights-sizes.false
-    (sym c.all_at_most.ensures ∙ not-true c.all_at_most.result c.if-not-all_at_most.true-raw)
+    (sym c.all_at_most.ensures ∙ c.if-not-all_at_most.true)
 
 pub returns : goal.returns
 returns c =
     let a = c.args in
     c.all_at_most-2.ensures
     ∙ by_weights a.sizes.now a.weights.now c.if-sizes-gt20.false c.if-weights-sizes.false
-    (sym c.all_at_most.ensures ∙ not-false c.all_at_most.result c.if-not-all_at_most.false-raw)
+    (sym c.all_at_most.ensures ∙ c.if-not-all_at_most.false)

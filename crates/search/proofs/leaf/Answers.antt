@@ -1,7 +1,6 @@
 -- `search::leaf`: a choice is kept where its shortfall is above 0 and below the size, else its entry stays. Assumes nothing.
 use Rattle.search.specs.Search.{as_held}
 use Rattle.search.proofs.Inner.{leaf-kept, leaf-full, leaf-none}
-use borrow.Author.Rules.{rules}
 use Rattle.search.proofs.leaf.Goals as goal
 
 pub returns-then-left-cap : goal.returns-then-left-cap

@@ -1,7 +1,6 @@
 -- `search::pick`: the place is below the count, so it is one of the tied entries. Assumes nothing.
 use native.Mathlib.Nat.{pos_of_ne-zero, mod-lt}
 use native.Mathlib.Omega.{arith}
-use borrow.Author.Rules.{rules}
 use Rattle.search.proofs.Tables.{pick-none, pick_at}
 use Rattle.search.proofs.pick.Goals as goal
 

@@ -1,7 +1,6 @@
 -- `search::rank_at`: entry 0 has the size 0 and the weight 1, any other those of its area. Assumes nothing.
 use Prim.Native.Nat.{◌-◌}
 use native.Mathlib.Omega.{arith}
-use borrow.Author.Rules.{rules}
 use Rattle.search.proofs.Select.{get_or-zero, get_or-pred, present-below, ranked}
 use Rattle.search.proofs.rank_at.Goals as goal
 

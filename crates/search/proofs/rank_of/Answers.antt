@@ -1,5 +1,4 @@
 -- `search::rank_of`: the test is the definition's; with sizes in their limits no product passes a u64. Assumes nothing.
-use borrow.Author.Rules.{rules}
 use borrow.Author.Tests.{le-leb, lt-leb}
 use Rattle.search.specs.Choice.{rank_of}
 use Rattle.search.proofs.rank_of.Goals as goal
