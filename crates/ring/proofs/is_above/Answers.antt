@@ -1,6 +1,5 @@
 -- `ring::is_above`: the row's start tells what the definition's first test does. Assumes nothing.
 use borrow.Author.Tests.{lt-leb, le-leb}
-use borrow.Author.Rules.{rules}
 use Rattle.ring.specs.Ring.{above}
 use Rattle.ring.proofs.is_above.Goals as goal
 

@@ -3,8 +3,6 @@ use mathlib.Core.Path.{sym, ap, ◌∙◌}
 use mathlib.Core.Bool.{false, not}
 use Prim.Native.Nat.{◌+◌}
 use native.Mathlib.Omega.{arith}
-use borrow.Author.Tests.{not-true, not-false}
-use borrow.Author.Rules.{rules}
 use Rattle.ring.specs.Ring.{seen}
 use Rattle.ring.proofs.PlaceLaws.{edge-no, edge-sides}
 use Rattle.ring.proofs.is_edge.Goals as goal
@@ -13,11 +11,11 @@ pub returns-then-not-is_in : goal.returns-then-not-is_in
 returns-then-not-is_in c =
     let a = c.args in
     edge-no (seen false a.mask.now) a.n a.columns (a.at + a.c) (omega (arith, c.requires.0.room, c.requires.1))
-    (sym c.is_in.ensures ∙ not-true c.is_in.result c.if-not-is_in.true-raw)
+    (sym c.is_in.ensures ∙ c.if-not-is_in.true)
 
 pub returns : goal.returns
 returns c =
     let a = c.args in
     ap not c.all_sides.ensures
     ∙ edge-sides (seen false a.mask.now) a.n a.columns (a.at + a.c) (omega (arith, c.requires.0.room, c.requires.1))
-    (sym c.is_in.ensures ∙ not-false c.is_in.result c.if-not-is_in.false-raw)
+    (sym c.is_in.ensures ∙ c.if-not-is_in.false)

@@ -1,6 +1,5 @@
 -- `ring::is_left`: by whether the column is the first. Assumes nothing.
 use borrow.Author.Tests.{ne_eqb}
-use borrow.Author.Rules.{rules}
 use Rattle.ring.proofs.is_left.Goals as goal
 
 pub returns-then-c-eq0 : goal.returns-then-c-eq0

@@ -3,7 +3,6 @@ use mathlib.Core.Path.{ap}
 use mathlib.Core.Bool.{not}
 use lib.ListN.{get_or}
 use borrow.Author.Tests.{ne_eqb}
-use borrow.Author.Rules.{rules}
 use Rattle.ring.proofs.is_outside.Goals as goal
 
 pub returns-then-cells-i-ne1 : goal.returns-then-cells-i-ne1

@@ -1,7 +1,6 @@
 -- `ring::is_right`: by whether the column is the last. Assumes nothing.
 use Prim.Native.Nat.{◌+◌}
 use borrow.Author.Tests.{eq-eqb, ne_eqb}
-use borrow.Author.Rules.{rules}
 use Rattle.ring.proofs.is_right.Goals as goal
 
 pub returns-then-c-columns : goal.returns-then-c-columns

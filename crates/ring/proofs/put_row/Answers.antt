@@ -1,13 +1,12 @@
 -- `ring::put_row`: each turn marks the place or leaves it. Assumes nothing.
-use mathlib.Core.Logic.{⊎_elim}
-use Prim.Native.Nat.{◌-◌, ◌≤◌}
 use native.Mathlib.Omega.{arith}
 use lib.ListN.{get_or}
 use borrow.Author.Tests.{lt-ltb, eq-eqb, ne_eqb}
 use borrow.Author.Rules.{rules}
 use Rattle.lists.proofs.Tests.{both}
 use Rattle.ring.specs.Code.{row_marks}
-use Rattle.ring.proofs.MarkLaws.{Marks, marks-start, marks-yes, marks-no, marks-end, row-past}
+use Rattle.ring.proofs.MarkLaws.{marks-start, marks-yes, marks-no, marks-end, row-past}
+use Rattle.ring.proofs.put_row.Goals.{then-marks-c-eq1, else-marks-c-eq1}
 use Rattle.ring.proofs.put_row.Goals as goal
 
 pub loop-c-init : goal.loop-c-init
@@ -23,12 +22,12 @@ loop-c-preserved c =
     let h = c.loop-c-test.true in
     let places = row_marks a.columns a.marks in (
       search rules,
-      ⊎_elim
-          (λ w. rw (w.1, w.2) (marks-yes places l.invariant.1 (omega (arith, c.requires.0))
-          (both (lt-ltb l.c a.columns h) (eq-eqb (get_or a.marks l.c 0) 1 w.0.taken))))
-          (λ w. rw (w.1, w.2) (marks-no places l.invariant.1
-          (rw (lt-ltb l.c a.columns h) (ne_eqb (get_or a.marks l.c 0) 1 w.0.left))))
-          c.if-marks-c-eq1.branch,
+      elim c.if-marks-c-eq1.branch [
+        | then-marks-c-eq1 w ↦ rw (w.part-is, w.any-is) (marks-yes places l.invariant.1 (omega (arith, c.requires.0))
+            (both (lt-ltb l.c a.columns h) (eq-eqb (get_or a.marks l.c 0) 1 w.if-marks-c-eq1.true)))
+        | else-marks-c-eq1 w ↦ rw (w.part-is, w.any-is) (marks-no places l.invariant.1
+            (rw (lt-ltb l.c a.columns h) (ne_eqb (get_or a.marks l.c 0) 1 w.if-marks-c-eq1.false)))
+      ],
     )
 
 pub shape_of-part : goal.shape_of-part

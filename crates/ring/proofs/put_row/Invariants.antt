@@ -1,13 +1,7 @@
 -- `ring::put_row`: each turn marks the place or leaves it. Assumes nothing.
-use mathlib.Core.Logic.{⊎_elim}
 use Prim.Native.Nat.{◌-◌, ◌≤◌}
-use native.Mathlib.Omega.{arith}
-use lib.ListN.{get_or}
-use borrow.Author.Tests.{lt-ltb, eq-eqb, ne_eqb}
-use borrow.Author.Rules.{rules}
-use Rattle.lists.proofs.Tests.{both}
 use Rattle.ring.specs.Code.{row_marks}
-use Rattle.ring.proofs.MarkLaws.{Marks, marks-start, marks-yes, marks-no, marks-end, row-past}
+use Rattle.ring.proofs.MarkLaws.{Marks}
 use Rattle.ring.proofs.put_row.Given as goal
 
 abbrev pub invariant-loop-c : goal.invariant-loop-c

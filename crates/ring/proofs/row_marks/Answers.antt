@@ -1,12 +1,12 @@
 -- `ring::row_marks`: each turn puts 1 where the place is to be marked. Assumes nothing.
 use mathlib.Core.Path.{sym, ◌∙◌}
-use mathlib.Core.Logic.{⊎_elim}
-use Prim.Native.Nat.{◌+◌, ◌-◌, ◌≤◌}
+use Prim.Native.Nat.{◌+◌}
 use native.Mathlib.Omega.{arith}
 use borrow.Author.Rules.{rules}
 use Rattle.ring.specs.Ring.{Places, seen, shown}
 use Rattle.ring.specs.Code.{to_mark}
-use Rattle.ring.proofs.MarkLaws.{RowRead, read-start, read-yes, read_no, read-end}
+use Rattle.ring.proofs.MarkLaws.{read-start, read-yes, read_no, read-end}
+use Rattle.ring.proofs.row_marks.Goals.{then-to_mark, else-to_mark}
 use Rattle.ring.proofs.row_marks.Goals as goal
 
 pub loop-c-init : goal.loop-c-init
@@ -27,10 +27,11 @@ loop-c-preserved c =
     let f = seen a.grow a.mask.now in
     let places : Places = λ j. to_mark a.grow a.near (shown a.cells.now) f a.n a.columns (a.at + j) in (
       search rules,
-      ⊎_elim
-          (λ w. rw w.1 (read-yes places l.invariant.1 (omega (arith, c.requires.0.narrow)) (sym m.ensures ∙ w.0.taken)))
-          (λ w. rw w.1 (read_no places l.invariant.1 (sym m.ensures ∙ w.0.left)))
-          c.if-to_mark.branch,
+      elim c.if-to_mark.branch [
+        | then-to_mark w ↦ rw w.marks-is (read-yes places l.invariant.1 (omega (arith, c.requires.0.narrow))
+            (sym m.ensures ∙ w.if-to_mark.true))
+        | else-to_mark w ↦ rw w.marks-is (read_no places l.invariant.1 (sym m.ensures ∙ w.if-to_mark.false))
+      ],
     )
 
 pub returns : goal.returns

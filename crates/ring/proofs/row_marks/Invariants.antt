@@ -1,12 +1,8 @@
 -- `ring::row_marks`: each turn puts 1 where the place is to be marked. Assumes nothing.
-use mathlib.Core.Path.{sym, ◌∙◌}
-use mathlib.Core.Logic.{⊎_elim}
 use Prim.Native.Nat.{◌+◌, ◌-◌, ◌≤◌}
-use native.Mathlib.Omega.{arith}
-use borrow.Author.Rules.{rules}
-use Rattle.ring.specs.Ring.{Places, seen, shown}
+use Rattle.ring.specs.Ring.{seen, shown}
 use Rattle.ring.specs.Code.{to_mark}
-use Rattle.ring.proofs.MarkLaws.{RowRead, read-start, read-yes, read_no, read-end}
+use Rattle.ring.proofs.MarkLaws.{RowRead}
 use Rattle.ring.proofs.row_marks.Given as goal
 
 abbrev pub invariant-loop-c : goal.invariant-loop-c

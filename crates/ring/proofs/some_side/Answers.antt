@@ -3,7 +3,6 @@ use mathlib.Core.Path.{sym, ◌∙◌}
 use mathlib.Core.Bool.{true}
 use Prim.Native.Nat.{◌+◌}
 use native.Mathlib.Omega.{arith}
-use borrow.Author.Rules.{rules}
 use Rattle.ring.specs.Ring.{seen}
 use Rattle.ring.proofs.PlaceLaws.{row_before, row-after, left_at, right-at, side-above, side-below, side_left, side_right}
 use Rattle.ring.proofs.some_side.Goals as goal
@@ -26,13 +25,14 @@ returns-then-is_above c =
 pub is_below-requires : goal.is_below-requires
 is_below-requires c =
     let row = c.requires.0 in
-    let low = c.requires.1 in (
-      (row.long, row.few, row.room),
-      (
+    let low = c.requires.1 in
+    record {
+      n_in_bounds = (row.long, row.few, row.room);
+      n_bound = (
         λ e. omega arith,
         λ last. omega (arith, row-after c.args.n c.args.columns c.args.at row.whole row.start row.room last),
-      ),
-    )
+      );
+    }
 
 pub returns-then-is_below : goal.returns-then-is_below
 returns-then-is_below c =

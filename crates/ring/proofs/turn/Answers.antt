@@ -1,6 +1,5 @@
 -- `ring::turn`: each way through its tests. Assumes nothing.
 use borrow.Author.Tests.{ne_eqb}
-use borrow.Author.Rules.{rules}
 use Rattle.ring.proofs.turn.Goals as goal
 
 pub returns-then-b-eq2 : goal.returns-then-b-eq2

@@ -1,12 +1,7 @@
 -- `ring::turn_row`: each turn turns a byte of the row. Assumes nothing.
-use mathlib.Core.Path.{◌∙◌}
 use Prim.Native.Nat.{◌-◌, ◌≤◌}
-use native.Mathlib.Omega.{arith}
-use borrow.Author.Tests.{lt-ltb}
-use borrow.Author.Rules.{rules}
-use Rattle.lists.proofs.InPlace.{Rewritten, starts, turns, ends}
+use Rattle.lists.proofs.InPlace.{Rewritten}
 use Rattle.ring.specs.Code.{turned}
-use Rattle.ring.proofs.MarkLaws.{turned-past}
 use Rattle.ring.proofs.turn_row.Given as goal
 
 abbrev pub invariant-loop-c : goal.invariant-loop-c

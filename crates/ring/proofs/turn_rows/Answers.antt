@@ -1,14 +1,14 @@
 -- `ring::turn_rows`: each turn lends the row writer the part from the row's start on. Assumes nothing.
-use Prim.Native.Nat.{◌+◌, ◌-◌, ◌≤◌}
+use Prim.Native.Nat.{◌+◌, ◌≤◌}
 use native.Mathlib.Omega.{arith}
 use lib.ListN.{length}
-use borrow.Author.Rules.{rules}
 use Rattle.lists.proofs.InPlace.{part_room}
-use Rattle.ring.proofs.MarkLaws.{Turns, turns-start, turns-room, turns-turn, turns-end}
+use Rattle.ring.proofs.MarkLaws.{turns-start, turns-room, turns-turn, turns-end}
 use Rattle.ring.proofs.turn_rows.Goals as goal
+use Rattle.ring.proofs.turn_rows.Goals.{In-loop-r}
 
 -- the row of a turn lies in the mask
-room : (c : goal.In-loop-r) → c.loop-r.at + c.args.columns ≤ length c.loop-r.mask
+room : (c : In-loop-r) → c.loop-r.at + c.args.columns ≤ length c.loop-r.mask
 room c =
     let a = c.args in
     turns-room a.all a.to a.rows a.columns a.mask.now c.loop-r.invariant
@@ -26,18 +26,18 @@ slice_bounds-turn_row-start c = omega (arith, room c)
 pub turn_row-requires : goal.turn_row-requires
 turn_row-requires c =
     let l = c.loop-r in
-    part_room l.mask l.at c.args.columns (room c.before)
+    part_room l.mask l.at c.args.columns (room (goal.at.turn_row-requires c).In-loop-r)
 
 pub overflow_add-at : goal.overflow_add-at
 overflow_add-at c =
-    omega (arith, room c.before.before.before.before, c.well_formed.0.0)
+    omega (arith, room (goal.at.overflow_add-at c).In-loop-r, c.well_formed.0.0)
 
 pub loop-r-preserved : goal.loop-r-preserved
 loop-r-preserved c =
     let a = c.args in
     let z = c.turn_row in
     turns-turn a.all a.to a.rows a.columns a.mask.now c.loop-r.invariant c.requires c.loop-r-test.true
-    z.new.0 z.auto.0 z.ensures
+    z.new.part z.auto.part z.ensures
 
 pub shape_of-mask : goal.shape_of-mask
 shape_of-mask c = c.loop-r.invariant.written.kept

@@ -1,10 +1,6 @@
 -- `ring::turn_rows`: each turn lends the row writer the part from the row's start on. Assumes nothing.
-use Prim.Native.Nat.{◌+◌, ◌-◌, ◌≤◌}
-use native.Mathlib.Omega.{arith}
-use lib.ListN.{length}
-use borrow.Author.Rules.{rules}
-use Rattle.lists.proofs.InPlace.{part_room}
-use Rattle.ring.proofs.MarkLaws.{Turns, turns-start, turns-room, turns-turn, turns-end}
+use Prim.Native.Nat.{◌-◌}
+use Rattle.ring.proofs.MarkLaws.{Turns}
 use Rattle.ring.proofs.turn_rows.Given as goal
 
 abbrev pub invariant-loop-r : goal.invariant-loop-r

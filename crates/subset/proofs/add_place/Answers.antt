@@ -1,6 +1,5 @@
 -- `subset::add_place`: the sums from d + p on are renewed, and d falls. Assumes nothing.
-use Rattle.subset.proofs.FillLaws.{Adding, adding-starts, adding-turns, adding-ends, adding-past, adding-none}
-use borrow.Author.Rules.{rules}
+use Rattle.subset.proofs.FillLaws.{adding-starts, adding-turns, adding-ends, adding-past, adding-none}
 use Rattle.subset.proofs.add_place.Goals as goal
 
 pub returns-then-p-eq0 : goal.returns-then-p-eq0

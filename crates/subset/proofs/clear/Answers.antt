@@ -1,6 +1,5 @@
 -- `subset::clear`: the entries above i are the mark for none, and i falls. Assumes nothing.
-use Rattle.subset.proofs.FillLaws.{Clearing, clearing-starts, clearing-turns, clearing-ends}
-use borrow.Author.Rules.{rules}
+use Rattle.subset.proofs.FillLaws.{clearing-starts, clearing-turns, clearing-ends}
 use Rattle.subset.proofs.clear.Goals as goal
 
 pub loop-i-init : goal.loop-i-init

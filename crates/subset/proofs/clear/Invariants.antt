@@ -1,6 +1,5 @@
 -- `subset::clear`: the entries above i are the mark for none, and i falls. Assumes nothing.
-use Rattle.subset.proofs.FillLaws.{Clearing, clearing-starts, clearing-turns, clearing-ends}
-use borrow.Author.Rules.{rules}
+use Rattle.subset.proofs.FillLaws.{Clearing}
 use Rattle.subset.proofs.clear.Given as goal
 
 abbrev pub invariant-loop-i : goal.invariant-loop-i

@@ -1,11 +1,7 @@
 -- `subset::fill`: k places are in the table, and the places to come get fewer. Assumes nothing.
 use Prim.Native.Nat.{◌-◌}
-use mathlib.Core.Path.{◌∙◌}
-use native.Mathlib.Omega.{arith}
-use lib.Dec.{lit<}
 use Rattle.subset.specs.Table.{weight}
-use Rattle.subset.proofs.FillLaws.{Filling, filling-starts, filling-turns, filling-stops, filling-ends, enough-lent}
-use borrow.Author.Rules.{rules}
+use Rattle.subset.proofs.FillLaws.{Filling}
 use Rattle.subset.proofs.fill.Given as goal
 
 abbrev pub invariant-loop-k : goal.invariant-loop-k

@@ -1,6 +1,5 @@
 -- `subset::greatest`: the sums above s have no entry, and s falls. Assumes nothing.
-use Rattle.subset.proofs.FillLaws.{Seeking, seeking-starts, seeking-turns, seeking-stops, seeking-ends}
-use borrow.Author.Rules.{rules}
+use Rattle.subset.proofs.FillLaws.{seeking-starts, seeking-turns, seeking-stops, seeking-ends}
 use Rattle.subset.proofs.greatest.Goals as goal
 
 pub loop-s-init : goal.loop-s-init

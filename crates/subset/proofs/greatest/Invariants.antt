@@ -1,6 +1,5 @@
 -- `subset::greatest`: the sums above s have no entry, and s falls. Assumes nothing.
-use Rattle.subset.proofs.FillLaws.{Seeking, seeking-starts, seeking-turns, seeking-stops, seeking-ends}
-use borrow.Author.Rules.{rules}
+use Rattle.subset.proofs.FillLaws.{Seeking}
 use Rattle.subset.proofs.greatest.Given as goal
 
 abbrev pub invariant-loop-s : goal.invariant-loop-s

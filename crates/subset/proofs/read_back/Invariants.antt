@@ -1,13 +1,6 @@
 -- `subset::read_back`: the members of what is left of the sum are still to be struck, and that sum falls. Assumes nothing.
-use mathlib.Core.Path.{◌≡◌}
-use native.Mathlib.Omega.{arith}
-use lib.ListN.{get_or}
-use lib.Dec.{lit<}
-use Rattle.subset.proofs.StrikeLaws.{Striking, striking-starts, striking-turns, striking-ends, entry-step, entry-people}
-use Rattle.subset.proofs.EntryLaws.{Step}
-use Rattle.subset.specs.Marked.{people_at}
+use Rattle.subset.proofs.StrikeLaws.{Striking}
 use Rattle.subset.specs.Table.{weight}
-use borrow.Author.Rules.{rules}
 use Rattle.subset.proofs.read_back.Given as goal
 
 abbrev pub invariant-loop-s : goal.invariant-loop-s
