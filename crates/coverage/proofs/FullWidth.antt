@@ -16,7 +16,7 @@ use Rattle.register.specs.declared.Licence.{Licence}
 use Rattle.coverage.specs.declared.Holding.{Holding}
 use Rattle.coverage.specs.Cover.{people_by, coverage, holding_of}
 use Rattle.coverage.specs.Blocks as blocks
-use Rattle.coverage.specs.FullWidth.{covered_people, remainder, rounds_up, whole_blocks, partial, value, FullWidths, AsBefore}
+use Rattle.coverage.specs.FullWidth.{covered_people, remainder, rounds_up, FullWidths, AsBefore}
 
 -- c
 pub full-covered : (ls : List Licence) (a : Area) → FullWidths ls → coverage ls a ≡ 50 * covered_people ls a

@@ -5,3 +5,4 @@ pub mod LookLaws
 pub mod HoldingLaws
 pub mod SameLaws
 pub mod FullWidth
+pub mod Examples

@@ -1,8 +1,9 @@
--- Coverage and blocks evaluated on tables of cases. A wrong row is refused. Assumes nothing.
-use Rattle.std.specs.Prelude.{ℕ, ◌≡◌, refl, Bool, true, false, ◌&&◌, List, [], ◌∷◌, eqb, ℤ, pos, negsuc}
+-- Tables of cases for coverage and blocks. That they come out right is shown in proofs/Examples; a wrong row is refused there. Assumes
+-- nothing.
+use Rattle.std.specs.Prelude.{ℕ, Bool, true, false, ◌&&◌, List, [], ◌∷◌, eqb, ℤ, pos, negsuc}
 use Rattle.map.specs.Reading.{Read, bad, good}
 use Rattle.map.specs.Format.{Place, gap, cell, Area}
-use Rattle.map.specs.Answers.{locate}
+use Rattle.register.specs.declared.Ground.{Ground}
 use Rattle.register.specs.declared.Ground.TheVariants as ground
 use Rattle.register.specs.declared.Licence.{Licence}
 use Rattle.register.specs.Licences.{full_licence}
@@ -10,7 +11,7 @@ use Rattle.coverage.specs.declared.Holding.{Holding}
 use Rattle.coverage.specs.declared.AreaBlocks.{AreaBlocks}
 use Rattle.coverage.specs.declared.CoverageSums.{CoverageSums}
 use Rattle.coverage.specs.Cover.{coverage, sum_of_cells}
-use Rattle.coverage.specs.Blocks.{remainder, rounds_up, whole_blocks, partial, value, size, blocks_of}
+use Rattle.coverage.specs.Blocks.{blocks_of}
 use Rattle.coverage.specs.Answers.{Answer, refused, answers, coverage_at, blocks_at}
 
 -- ---- blocks
@@ -53,10 +54,6 @@ abbrev pub blocks_right : List BlocksRow → Bool
 blocks_right [] = true
 blocks_right (holds p w c n v m ∷ rows) = same_blocks (blocks_of (held p w c)) n v m && blocks_right rows
 
-pub blocks-right : blocks_right blocks_rows ≡ true
-unfolding blocks_of whole_blocks partial rounds_up value size remainder
-blocks-right = refl
-
 -- ---- coverage of one area: number 5, three rows and two columns, two places without a cell, and a cell without people
 
 abbrev at : (people : ℕ) → (latitude longitude : ℤ) → Place
@@ -82,7 +79,7 @@ of_box s n w e = full_licence 1 (ground.Box (record { south = s; north = n; west
 
 -- the same licence at another width
 abbrev wide : ℕ → Licence → Licence
-wide w l = record { call_sign = l.call_sign; ground = l.ground; width = w }
+wide w l = let ground : Ground = l.ground in record { call_sign = l.call_sign; ground = ground; width = w }
 
 -- the licences in force, c and the sum of cells
 pub data CoverRow : Type 0 where
@@ -124,9 +121,6 @@ abbrev pub cover_right : List CoverRow → Bool
 cover_right [] = true
 cover_right (covered ls c n ∷ rows) = eqb (coverage ls five) c && eqb (sum_of_cells ls five) n && cover_right rows
 
-pub cover-right : cover_right cover_rows ≡ true
-cover-right = refl
-
 -- ---- answers: the area's number, a number that the map lacks, and a map that is refused
 
 abbrev cover_is : Answer CoverageSums → (mhz-pops cells : ℕ) → Bool
@@ -152,7 +146,7 @@ on_map = good (five ∷ []) 60
 abbrev lines : List Licence
 lines = of_area 5 ∷ of_box (pos 0) (pos 1) (pos 0) (pos 1) ∷ []
 
-abbrev answers_right : Bool
+abbrev pub answers_right : Bool
 answers_right =
     cover_is (coverage_at 5 lines on_map) 1_350 5 &&
     cover_is (coverage_at 6 lines on_map) 0 0 &&
@@ -160,7 +154,3 @@ answers_right =
     blocks_are (blocks_at 5 lines on_map) 0 1_350 1_700 &&
     blocks_are (blocks_at 6 lines on_map) 0 0 0 &&
     refused_by (blocks_at 5 lines (bad 4)) 4
-
-pub answers-right : answers_right ≡ true
-unfolding coverage_at blocks_at locate blocks_of whole_blocks partial rounds_up value size remainder
-answers-right = refl

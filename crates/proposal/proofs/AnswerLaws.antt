@@ -19,10 +19,10 @@ use Rattle.proposal.specs.declared.Outcome.{Outcome}
 use Rattle.proposal.specs.declared.parts.Partials.{Partials}
 use Rattle.proposal.specs.declared.Proposal as proposed
 use Rattle.proposal.specs.Choices.{partials, share, part_areas}
-use Rattle.proposal.specs.Best.{tied, chosen}
+use Rattle.proposal.specs.Best.{chosen}
 use Rattle.proposal.specs.Answer.{kind_of, given, Proposal, refused_by, answer_of, proposal}
 use Rattle.proposal.specs.Promises.{area_means, refusal_number, kind_number, means, blank, Answers}
-use Rattle.proposal.specs.Code.{sizes, weights, Gathered, decode, Settled, outcome_of}
+use Rattle.proposal.specs.Code.{Gathered, decode, Settled, outcome_of}
 use Rattle.proposal.proofs.BestLaws.{
   found,
   found_rank,

@@ -10,7 +10,7 @@ use Rattle.lists.specs.Sums.{any}
 use Rattle.lists.specs.Filters.{filter, up_to, foremost}
 use Rattle.lists.proofs.Tests.{by-test}
 use Rattle.coverage.specs.declared.Holding.{Holding}
-use Rattle.coverage.specs.Blocks.{partial, value, size}
+use Rattle.coverage.specs.Blocks.{partial}
 use Rattle.search.specs.Choice.{Mark, out, whole, part}
 use Rattle.subset.specs.Rule.{smallest}
 use Rattle.proposal.specs.Choices.{

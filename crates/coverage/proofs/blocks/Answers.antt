@@ -2,7 +2,6 @@
 use Prim.Native.Nat.{◌*◌}
 use mathlib.Core.Path.{sym, ap, ◌∙◌, subst}
 use native.Mathlib.Omega.{arith}
-use borrow.Author.Rules.{rules}
 use lib.ListN.{take}
 use Rattle.map.specs.Format.{Area, read_map}
 use Rattle.map.specs.Answers.{counted_area, sought_means}
@@ -52,8 +51,7 @@ returns-in-At c =
     let ls = in_force a.register.places in
     let edges = take (4 * b.count) b.edges in
     let made : Area → AreaBlocks = λ x. blocks_of (holding_of ls x) in
-    let g = c.a-1.given in
-    let l = sought-up (counted_area edges b.widths) a.map.now a.number g.0.0 (sym (ap sought_means g.1) ∙ c.find.ensures) in
+    let l = sought-up (counted_area edges b.widths) a.map.now a.number c.in-At.a (sym (ap sought_means c.in-At.is) ∙ c.find.ensures) in
     let st = l.stands in
     let is = holding-handed c.boxes-boxes.ensures st.holds st.handed c.holding_of.ensures in
     ap answers (blocks-exact (subst Limits (sym is) (limits_of ls st.area st.holds)) c.blocks_of.ensures ∙ ap blocks_of is)

@@ -2,7 +2,6 @@
 use Prim.Native.Nat.{◌*◌}
 use mathlib.Core.Path.{sym, ap, ◌∙◌}
 use native.Mathlib.Omega.{arith}
-use borrow.Author.Rules.{rules}
 use lib.ListN.{take}
 use Rattle.map.specs.Format.{read_map}
 use Rattle.map.specs.declared.parts.CountedArea.{CountedArea}
@@ -47,8 +46,7 @@ returns-in-At c =
     let b = c.boxes-boxes.result in
     let ls = in_force a.register.places in
     let edges = take (4 * b.count) b.edges in
-    let g = c.a-1.given in
-    let l = sought-up (counted_area edges b.widths) a.map.now a.number g.0.0 (sym (ap sought_means g.1) ∙ c.find.ensures) in
+    let l = sought-up (counted_area edges b.widths) a.map.now a.number c.in-At.a (sym (ap sought_means c.in-At.is) ∙ c.find.ensures) in
     let st = l.stands in
     let named = naming-is c.naming.ensures ∙ ap (naming_of ls) (sym st.numbered) in
     ap answers (c.sums_of.ensures

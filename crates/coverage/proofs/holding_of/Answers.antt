@@ -1,6 +1,5 @@
 -- `coverage::holding_of` meets its contract: the area's own fields, its c and its sum of cells. Assumes nothing.
 use mathlib.Core.Path.{ap, ◌∙◌, subst}
-use borrow.Author.Rules.{rules}
 use Rattle.coverage.specs.declared.Holding.{Holding}
 use Rattle.coverage.specs.declared.CoverageSums.{CoverageSums}
 use Rattle.register.specs.declared.Naming.{Naming}

@@ -1,7 +1,6 @@
 -- `coverage::sums_of` meets its contract: each unit by its own product and sum. Assumes nothing.
 use Prim.Native.Nat.{ℕ, ◌+◌}
 use mathlib.Core.Path.{ap, ◌∙◌}
-use borrow.Author.Rules.{rules}
 use Rattle.units.specs.Sums.{capped}
 use Rattle.coverage.proofs.sums_of.Goals as goal
 

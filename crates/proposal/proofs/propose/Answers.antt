@@ -2,7 +2,6 @@
 use mathlib.Core.Path.{refl}
 use Rattle.register.specs.Licences.{in_force}
 use Rattle.proposal.proofs.MapLaws.{on-refused, bounded, on-accepted}
-use borrow.Author.Rules.{rules}
 use Rattle.proposal.proofs.propose.Goals as goal
 
 pub propose_from-requires : goal.propose_from-requires

@@ -1,6 +1,5 @@
 -- `coverage::parts::blocks_of` meets its contract: by whether the area is within the limits. Assumes nothing.
 use mathlib.Core.Path.{sym, ◌∙◌}
-use borrow.Author.Rules.{rules}
 use Rattle.lists.proofs.Tests.{takes, leaves}
 use Rattle.coverage.specs.Blocks.{blocks_of}
 use Rattle.coverage.specs.Answers.{no_blocks}

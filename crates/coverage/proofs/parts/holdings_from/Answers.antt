@@ -1,23 +1,13 @@
 -- `coverage::parts::holdings_from` meets its contract: one area a turn, with its c and its sum of cells. Assumes nothing.
-use Prim.Native.Nat.{◌*◌, ◌-◌, ◌<◌}
+use Prim.Native.Nat.{◌*◌, ◌<◌}
 use mathlib.Core.Path.{sym, ap, ◌∙◌}
 use native.Mathlib.Omega.{arith}
-use borrow.Author.Rules.{rules}
 use lib.ListN.{take}
 use Rattle.map.specs.Answers.{area_means}
 use Rattle.map.specs.declared.Fault.TheVariants.{Extra}
 use Rattle.register.specs.Licences.{in_force}
 use Rattle.coverage.proofs.CoverLaws.{edges-size, holding-handed}
-use Rattle.coverage.proofs.HoldingLaws.{
-  area-read,
-  Gathered,
-  gather-starts,
-  gather-turns,
-  gather-stops,
-  gather-extra,
-  gather-ends,
-  none_done,
-}
+use Rattle.coverage.proofs.HoldingLaws.{area-read, gather-starts, gather-turns, gather-stops, gather-extra, gather-ends, none_done}
 use Rattle.coverage.proofs.parts.holdings_from.Goals as goal
 
 pub loop-k-init : goal.loop-k-init
@@ -38,10 +28,9 @@ returns-in-Bad c =
     let a = c.args in
     let b = c.boxes-boxes.result in
     let ls = in_force a.register.places in
-    let f = c.f-1.given in
-    none_done ls f.0.0
+    none_done ls c.in-Bad.f
     (gather-stops a.map.now ls c.loop-k.invariant (take (4 * b.count) b.edges) b.widths c.loop-k-test.true
-    (sym (ap area_means f.1) ∙ c.area_at.ensures))
+    (sym (ap area_means c.in-Bad.is) ∙ c.area_at.ensures))
     c.no_holdings.ensures
 
 -- an area that is read is one of 32
@@ -69,9 +58,8 @@ pub loop-k-preserved : goal.loop-k-preserved
 loop-k-preserved c =
     let a = c.args in
     let b = c.boxes-boxes.result in
-    let g = c.a-1.given in
-    let read = area-read a.map.now (take (4 * b.count) b.edges) b.widths c.loop-k.before c.loop-k.at g.0.0
-    (sym (ap area_means g.1) ∙ c.area_at.ensures) in
+    let read = area-read a.map.now (take (4 * b.count) b.edges) b.widths c.loop-k.before c.loop-k.at c.in-Good.a
+    (sym (ap area_means c.in-Good.is) ∙ c.area_at.ensures) in
     gather-turns a.map.now (in_force a.register.places) c.loop-k.invariant c.loop-k-test.true c.requires
     read (holding-handed c.boxes-boxes.ensures read.holds read.handed c.holding_of.ensures)
 

@@ -1,7 +1,6 @@
 -- `coverage::parts::holdings_in` meets its contract: the count, then the areas. Assumes nothing.
 use mathlib.Core.Path.{sym, ap, ◌∙◌, subst}
 use native.Mathlib.Omega.{arith}
-use borrow.Author.Rules.{rules}
 use Rattle.map.specs.Format.{read_map}
 use Rattle.map.specs.Answers.{field_means, field_value}
 use Rattle.map.proofs.FieldLaws.{bind-bad, bind-good}
@@ -18,9 +17,8 @@ pub returns-in-Bad : goal.returns-in-Bad
 unfolding read_map
 returns-in-Bad c =
     let a = c.args in
-    let f = c.f-1.given in
-    none_done (in_force a.register.places) f.0.0
-    (bind-bad _ (sym (ap field_means f.1) ∙ c.u8_field.ensures.0)) c.no_holdings.ensures
+    none_done (in_force a.register.places) c.in-Bad.f
+    (bind-bad _ (sym (ap field_means c.in-Bad.is) ∙ c.u8_field.ensures.0)) c.no_holdings.ensures
 
 pub returns-in-Good : goal.returns-in-Good
 unfolding read_map

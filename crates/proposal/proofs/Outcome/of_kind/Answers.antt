@@ -1,4 +1,5 @@
 -- `proposal::Outcome::of_kind`: by the three arms. Assumes nothing.
+use native.Mathlib.Omega.{arith}
 use borrow.Author.Tests.{eq-eqb, ne_eqb}
 use Rattle.proposal.specs.Code.{outcome_of}
 use Rattle.proposal.proofs.Outcome.of_kind.Goals as goal
@@ -13,4 +14,4 @@ returns-in-2 c = rw c.in-2.is
 
 pub returns-in_default : goal.returns-in_default
 unfolding outcome_of
-returns-in_default c = rw (ne_eqb c.args.kind 1 c.in_default.rest.0.1, ne_eqb c.args.kind 2 c.in_default.rest.1)
+returns-in_default c = rw (ne_eqb c.args.kind 1 (omega arith), ne_eqb c.args.kind 2 (omega arith))

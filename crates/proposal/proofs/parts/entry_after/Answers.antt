@@ -1,6 +1,5 @@
 -- `proposal::parts::entry_after`: by the tests. Assumes nothing.
 use native.Mathlib.Omega.{arith}
-use borrow.Author.Rules.{rules}
 use Rattle.proposal.proofs.parts.entry_after.Goals as goal
 
 pub returns-then-entry-eq0 : goal.returns-then-entry-eq0

@@ -1,13 +1,7 @@
 -- `proposal::parts::gather`: the partial areas, one area a turn. Assumes nothing.
 use Prim.Native.Nat.{◌-◌}
-use mathlib.Core.Logic.{⊎_elim}
 use lib.ListN.{take}
-use Rattle.units.specs.declared.Weighted.{Weighted}
-use Rattle.proposal.proofs.GatherLaws.{gather-as}
-use mathlib.Core.Path.{ap}
-use Rattle.proposal.proofs.GatherLaws.{blocks_at, gather-takes, gather-leaves, gather-ends}
 use Rattle.proposal.proofs.GatherLaws.{Gathering}
-use borrow.Author.Rules.{rules}
 use Rattle.proposal.proofs.parts.gather.Given as goal
 
 abbrev pub invariant-loop-i : goal.invariant-loop-i

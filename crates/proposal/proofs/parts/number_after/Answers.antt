@@ -1,5 +1,4 @@
 -- `proposal::parts::number_after`: by the test. Assumes nothing.
-use borrow.Author.Rules.{rules}
 use Rattle.proposal.proofs.parts.number_after.Goals as goal
 
 pub returns-then-partial : goal.returns-then-partial

@@ -7,7 +7,6 @@ use lib.Seq.{length-take-le}
 use Rattle.proposal.specs.Choices.{partials}
 use Rattle.proposal.proofs.GatherLaws.{all-given}
 use Rattle.proposal.proofs.AnswerLaws.{too_many, asked, share-asks, proposes}
-use borrow.Author.Rules.{rules}
 use Rattle.proposal.proofs.parts.propose_from.Goals as goal
 
 pub returns-then-n-gt20 : goal.returns-then-n-gt20

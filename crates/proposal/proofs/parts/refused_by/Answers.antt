@@ -1,6 +1,5 @@
 -- `proposal::parts::refused_by`: the answer of a refused map. Assumes nothing.
 use mathlib.Core.Path.{refl}
-use borrow.Author.Rules.{rules}
 use Rattle.proposal.proofs.parts.refused_by.Goals as goal
 
 pub returns : goal.returns

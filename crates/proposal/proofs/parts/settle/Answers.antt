@@ -1,10 +1,6 @@
 -- `proposal::parts::settle`: what each area is given, one area a turn. Assumes nothing.
-use Prim.Native.Nat.{◌-◌}
-use lib.ListN.{take}
 use Rattle.proposal.proofs.GatherLaws.{blocks_at}
 use Rattle.proposal.proofs.SettleLaws.{settle-turns, settle-ends}
-use Rattle.proposal.proofs.SettleLaws.{Settling}
-use borrow.Author.Rules.{rules}
 use Rattle.proposal.proofs.parts.settle.Goals as goal
 
 pub loop-i-preserved : goal.loop-i-preserved

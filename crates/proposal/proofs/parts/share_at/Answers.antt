@@ -3,7 +3,6 @@ use Prim.Native.Nat.{◌-◌}
 use mathlib.Core.Path.{sym, ap}
 use native.Mathlib.Omega.{arith}
 use Rattle.search.proofs.Select.{get_or-zero, get_or-pred}
-use borrow.Author.Rules.{rules}
 use Rattle.proposal.proofs.parts.share_at.Goals as goal
 
 pub returns-then-entry-eq0 : goal.returns-then-entry-eq0
