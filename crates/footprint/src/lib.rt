@@ -116,7 +116,7 @@ fn outline(
 ) -> FootprintAnswer
     requires { Readable map.now a }
     ensures { Outlines map.now (in_force register.places) a share.0 result
-        (record { mask = mask.entry.now; after = mask.exit.now; table = table.old; entries = table.new }) }
+        (record { mask = mask.old; after = mask.new; table = table.old; entries = table.new }) }
 {
     if mask.len() < a.rows * a.columns {
         return FootprintAnswer::MaskShort;

@@ -77,7 +77,8 @@ module _ (columns rows : ℕ) (grid : List (List Place)) (g : GridHolds columns 
       let has = (all_get_d (RowHolds columns) grid n [] g.1 (omega arith)).0 in
       let before = rows-sum n (omega arith) in
       let here : sum_below (λ j. people (n * columns + j)) (λ j. cells (n * columns + j)) columns ≡ total people_at row =
-      sum_same _ _ _ _ columns
+      sum_same (λ j. people (n * columns + j)) (λ j. people_at (get_or row j gap))
+      (λ j. cells (n * columns + j)) (λ j. is_cell (get_or row j gap)) columns
       (λ j b. ap (λ (p : Place). cond (is_cell p) (people_at p) 0) (sym (place-in-row grid n columns (n * columns) j refl b)))
       ∙ row-sum row columns (omega arith)
       ∙ ap (total people_at) (ap (λ (k : ℕ). take k row) (sym has) ∙ take-length row) in

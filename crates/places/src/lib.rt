@@ -68,8 +68,8 @@ fn lay_row(
     requires { IsGood (read_row map.now columns at) × (columns ≤ 256) × (always ≤ 64) × (length edges.now ≤ 256)
         × (columns ≤ length people.old) × (columns ≤ length cells.old) × (columns ≤ length mask.old) }
     ensures { RowLaid (read_row map.now columns at) columns always edges.now
-        (record { people = people.entry.now; cells = cells.old; mask = mask.old })
-        (record { people = people.exit.now; cells = cells.new; mask = mask.new }) result }
+        (record { people = people.old; cells = cells.old; mask = mask.old })
+        (record { people = people.new; cells = cells.new; mask = mask.new }) result }
 {
     let mut next = at + (columns + 7) / 8;
     let mut j: usize = 0;
@@ -103,8 +103,8 @@ pub fn lay_out(
         × (length edges.now ≤ 256) × (rows * columns ≤ length people.old) × (rows * columns ≤ length cells.old)
         × (rows * columns ≤ length mask.old) }
     ensures { LaidOut (read_rows map.now columns rows start) columns rows always edges.now
-        (record { people = people.entry.now; cells = cells.old; mask = mask.old })
-        (record { people = people.exit.now; cells = cells.new; mask = mask.new }) }
+        (record { people = people.old; cells = cells.old; mask = mask.old })
+        (record { people = people.new; cells = cells.new; mask = mask.new }) }
 {
     let mut from = start;
     let mut at: usize = 0;

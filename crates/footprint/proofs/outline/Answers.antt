@@ -16,6 +16,7 @@ use Rattle.footprint.specs.Code.{Buffers, Comes, Fits, told_by}
 use Rattle.footprint.proofs.OutlineLaws.{Outlined, outlined-by, too_short}
 use borrow.Author.Rules.{rules}
 use Rattle.footprint.proofs.outline.Goals as goal
+use Rattle.footprint.proofs.outline.Goals.{After-make}
 
 pub overflow_mul-a : goal.overflow_mul-a
 overflow_mul-a c =
@@ -52,71 +53,59 @@ lay_out-requires c =
       c.if-mask-a.false,
     )
 
-abbrev start : tie.After-make → tie.Start
-start c =
-    let c9 = c.before.before.before.before.before.before.before.before.before in
-    let c18 = c9.before.before.before.before.before.before.before.before.before in
-    c18.before.before.before.before.before
-
-abbrev buffers : tie.After-make → Buffers
+abbrev buffers : After-make → Buffers
 buffers c = record {
-  mask = (start c).args.mask.now;
-  after = c.make.new.0;
-  table = (start c).args.table.now;
-  entries = c.make.new.1.1.1.1.1.1.1.0;
+  mask = c.args.mask.now;
+  after = c.make.new.mask;
+  table = c.args.table.now;
+  entries = c.make.new.table;
 }
 
-outlined : (c : goal.After-make) → Outlined (start c).args.map.now (in_force (start c).args.register.places) (start c).args.share.0
-    (start c).args.a c.make.result (buffers c)
+outlined : (c : After-make) → Outlined c.args.map.now (in_force c.args.register.places) c.args.share.0 c.args.a c.make.result (buffers c)
 outlined c =
     let laid = c.lay_out in
     let boxes = c.boxes-boxes in
     record {
       always = c.naming-always.result.licences;
       edges = take (4 * boxes.result.count) boxes.result.edges;
-      over = covered-some boxes.ensures (start c).args.a.number (naming-is c.naming-always.ensures);
-      before = record { people = replicate 16384 0; cells = replicate 16384 0; mask = (start c).args.mask.now };
-      after = record {
-        people = laid.new.1.1.1.1.1.1.0;
-        cells = laid.new.1.1.1.1.1.1.1.0;
-        mask = laid.new.1.1.1.1.1.1.1.1.0;
-      };
+      over = covered-some boxes.ensures c.args.a.number (naming-is c.naming-always.ensures);
+      before = record { people = replicate 16384 0; cells = replicate 16384 0; mask = c.args.mask.now };
+      after = record { people = laid.new.people; cells = laid.new.cells; mask = laid.new.mask };
       room = c.if-mask-a.false;
       lent = refl;
       people-lent = length-replicate {A = ℕ} 16384 0;
       cells-lent = length-replicate {A = ℕ} 16384 0;
       laid = laid.ensures;
-      mask-kept = laid.auto.1.1.1.1.1.1.1.1.0;
-      people-kept = laid.auto.1.1.1.1.1.1.0;
-      cells-kept = laid.auto.1.1.1.1.1.1.1.0;
+      mask-kept = laid.auto.mask;
+      people-kept = laid.auto.people;
+      cells-kept = laid.auto.cells;
       made = c.make.ensures;
-      after_kept = c.make.auto.0;
-      entries-kept = c.make.auto.1.1.1.1.1.1.1.0;
+      after_kept = c.make.auto.mask;
+      entries-kept = c.make.auto.table;
     }
 
 -- so the answer of the rounds is told for the area of the map
-abbrev Given : (c : goal.After-make) → Area → Answer → Type 0
+abbrev Given : (c : After-make) → Area → Answer → Type 0
 Given c a r =
-    Comes (footprint_of a.head.number (part_area a) (start c).args.share.0
-    (covered_cells (in_force (start c).args.register.places) a)) (told_by (start c).args.a.number r) (buffers c)
+    Comes (footprint_of a.head.number (part_area a) c.args.share.0 (covered_cells (in_force c.args.register.places) a))
+    (told_by c.args.a.number r) (buffers c)
 
-given : (c : goal.After-make) (a : Area) → (start c).args.a ≡ summary a → AreaHolds (start c).args.map.now a
-    → Fits (in_force (start c).args.register.places) (start c).args.share.0 a → Given c a c.make.result
+given : (c : After-make) (a : Area) → c.args.a ≡ summary a → AreaHolds c.args.map.now a
+    → Fits (in_force c.args.register.places) c.args.share.0 a → Given c a c.make.result
 given c a e h f =
-    outlined-by h (in_force (start c).args.register.places) (start c).args.share.0 f c.make.result (buffers c) (start c).args.a e
-    (outlined c)
+    outlined-by h (in_force c.args.register.places) c.args.share.0 f c.make.result (buffers c) c.args.a e (outlined c)
 
 pub returns-in-Done : goal.returns-in-Done
 returns-in-Done c =
-    λ a e h f. (
-    subst (Given c.before.before.before.before.before.before a) c.in-Done.is (given c.before.before.before.before.before.before a e h f))
+    let m = (goal.at.returns-in-Done c).After-make in
+    λ a e h f. subst (Given m a) c.in-Done.is (given m a e h f)
 
 pub returns-in-Short : goal.returns-in-Short
 returns-in-Short c =
-    λ a e h f. (
-    subst (Given c.before.before.before.before.before.before.before a) c.in-Short.is (given c.before.before.before.before.before.before.before a e h f))
+    let m = (goal.at.returns-in-Short c).After-make in
+    λ a e h f. subst (Given m a) c.in-Short.is (given m a e h f)
 
 pub returns-in-Outside : goal.returns-in-Outside
 returns-in-Outside c =
-    λ a e h f. (
-    subst (Given c.before.before.before.before.before.before a) c.in-Outside.is (given c.before.before.before.before.before.before a e h f))
+    let m = (goal.at.returns-in-Outside c).After-make in
+    λ a e h f. subst (Given m a) c.in-Outside.is (given m a e h f)

@@ -3,7 +3,6 @@ use Prim.Native.Nat.{◌-◌, ◌<◌}
 use mathlib.Core.Path.{◌≡◌, refl}
 use lib.ListN.{length}
 use native.Mathlib.Omega.{arith}
-use mathlib.Core.Logic.{⊎_elim}
 use Rattle.proposal.specs.declared.Gets.TheVariants as gets
 use Rattle.proposal.specs.Promises.{blank}
 use Rattle.footprint.proofs.TurnLaws.{Looking, look-starts, look-turns, look-finds, look-ends}

@@ -1,16 +1,13 @@
 -- `places::lay_out`: one row a turn, laid into the parts of the lists from its first place on. Assumes nothing.
-use Prim.Native.Nat.{◌+◌, ◌-◌, ◌≤◌}
-use native.Mathlib.Omega.{arith}
-use native.Mathlib.Nat.{mul-le-mul}
-use borrow.Author.Rules.{rules}
-use Rattle.places.specs.Places.{Lists}
-use Rattle.places.proofs.LayLaws.{LayingRows, Room, rows_start, row-good, row_fits, row_room, part_room, rows-turn, rows_end}
+use Prim.Native.Nat.{◌-◌}
+use Rattle.places.proofs.LayLaws.{LayingRows}
 use Rattle.places.proofs.lay_out.Given as goal
 
 abbrev pub invariant-loop-i : goal.invariant-loop-i
 invariant-loop-i l =
-    LayingRows l.map l.columns l.rows l.start l.always l.edges (record { l.people = l.initial.people; l.cells = l.initial.cells; l.mask = l.initial.mask })
-    (record { l.people = l.people; l.cells = l.cells; l.mask = l.mask }) l.from l.at l.i
+    LayingRows l.map l.columns l.rows l.start l.always l.edges
+    (record { people = l.initial.people; cells = l.initial.cells; mask = l.initial.mask })
+    (record { people = l.people; cells = l.cells; mask = l.mask }) l.from l.at l.i
 
 abbrev pub decreases-loop-i : goal.decreases-loop-i
 decreases-loop-i l = l.rows - l.i

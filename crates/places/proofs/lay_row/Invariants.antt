@@ -1,14 +1,13 @@
 -- `places::lay_row`: one place a turn, each laid into the three lists. Assumes nothing.
 use Prim.Native.Nat.{◌-◌}
-use native.Mathlib.Omega.{arith}
-use borrow.Author.Rules.{rules}
-use Rattle.places.proofs.LayLaws.{LayingRow, bits_inside, row-starts, place-turns, place-ends}
+use Rattle.places.proofs.LayLaws.{LayingRow}
 use Rattle.places.proofs.lay_row.Given as goal
 
 abbrev pub invariant-loop-j : goal.invariant-loop-j
 invariant-loop-j l =
-    LayingRow l.map l.columns l.at l.always l.edges (record { l.people = l.initial.people; l.cells = l.initial.cells; l.mask = l.initial.mask })
-    (record { l.people = l.people; l.cells = l.cells; l.mask = l.mask }) l.next l.j
+    LayingRow l.map l.columns l.at l.always l.edges
+    (record { people = l.initial.people; cells = l.initial.cells; mask = l.initial.mask })
+    (record { people = l.people; cells = l.cells; mask = l.mask }) l.next l.j
 
 abbrev pub decreases-loop-j : goal.decreases-loop-j
 decreases-loop-j l = l.columns - l.j

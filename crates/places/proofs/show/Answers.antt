@@ -35,18 +35,16 @@ pub returns-in-There : goal.returns-in-There
 returns-in-There c =
     let a = c.args in
     let edges = a.edges.now in
-    let g = c.c-1.given in
-    let k = g.0.0 in
-    let t = c.struct_told-in-There-1.given in
+    let k = c.in-There.c in
     let over : c.covering.result ≡ boxes_over edges k.latitude k.longitude =
     c.covering.ensures.0
     ∙ sym (takes {A = ℕ} 0 (le-leb (length edges) 256 c.requires.1))
     ∙ (λ i. boxes_over edges
-    (to_z-of_z {w = w32} {z = k.latitude} (record { sfits = t.1.0.1 }) i)
-    (to_z-of_z {w = w32} {z = k.longitude} (record { sfits = t.1.1.0.1 }) i)) in
-    let x : Shown = record { people = k.people; cell = 1; covered = c.mark.result; next = g.0.1.0 } in
+    (to_z-of_z {w = w32} {z = k.latitude} (search rules) i)
+    (to_z-of_z {w = w32} {z = k.longitude} (search rules) i)) in
+    let x : Shown = record { people = k.people; cell = 1; covered = c.mark.result; next = c.in-There.next } in
     subst (λ (r : Read Place). PlaceShown r a.always edges x)
-    (sym (ap place_means g.1) ∙ c.place.ensures) (
+    (sym (ap place_means c.in-There.is) ∙ c.place.ensures) (
       record {
         people = refl;
         cell = refl;
