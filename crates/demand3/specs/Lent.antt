@@ -1,7 +1,7 @@
 -- What is lent to the functions of an interface, and these functions by their own contracts. What is lent lies somewhere and is lent for
 -- some time, both open. Assumes nothing.
 use Rattle.std.specs.Prelude.{ℕ, ◌≡◌, List}
-use Rattle.std.specs.Borrow.{GName, Bor}
+use Rattle.std.specs.Borrow.{GName, Bor, MutBor}
 use contract.Lifetimes.{Lfts}
 use Rattle.register.specs.declared.Register.{Register}
 use Rattle.proposal.specs.Answer.{Proposal}
@@ -14,9 +14,13 @@ pub record Where : Type 0 where
   pub ptr : ℕ × ℕ
   pub name : GName
 
--- what is lent from there
+-- what is lent from there to be read, which goes by no name
 abbrev pub lent : Where → List ℕ → Bor (List ℕ)
-lent w l = record { ref_ptr = w.ptr; ghost_name = w.name; now = l }
+lent w l = record { ref_ptr = w.ptr; now = l }
+
+-- what is lent from there to be written
+abbrev pub lent_out : Where → List ℕ → MutBor (List ℕ)
+lent_out w l = record { ref_ptr = w.ptr; ghost_name = w.name; now = l }
 
 -- ---- a proposal's function
 
@@ -49,10 +53,10 @@ proposing draw {A} number Says Pre Post = record {
 
 -- what it is given: the map, the register, the draw, the mask and the table
 abbrev pub OnBuffers : Type 0
-OnBuffers = Bor (List ℕ) × (Register × (ℕ × (Bor (List ℕ) × (Bor (List ℕ) × Unit {0}))))
+OnBuffers = Bor (List ℕ) × (Register × (ℕ × (MutBor (List ℕ) × (MutBor (List ℕ) × Unit {0}))))
 
 abbrev pub on_buffers : (lies masks tables : Where) → (map : List ℕ) → Register → (draw : ℕ) → (mask table : List ℕ) → OnBuffers
-on_buffers lies masks tables map r draw mask table = (lent lies map, (r, (draw, (lent masks mask, (lent tables table, tt)))))
+on_buffers lies masks tables map r draw mask table = (lent lies map, (r, (draw, (lent_out masks mask, (lent_out tables table, tt)))))
 
 -- what it ensures, lent all three for some time; the mask and the table come back as it leaves them
 pub record Outlines {A : Type 0} (Post : Lfts 3 → OnBuffers → A → OnBuffers → Type 0) (map : List ℕ) (r : Register) (draw : ℕ)
