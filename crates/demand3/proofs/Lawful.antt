@@ -14,7 +14,7 @@ use Rattle.footprint.specs.Footprint.{footprint_on}
 use Rattle.footprint.specs.Promises.{Reply, Leaves}
 use Rattle.demand3.specs.Calls.{licence, Call, grant, cancel, propose, footprint, Outlined, Outcome, number}
 use Rattle.demand3.specs.Interface.{Function, Saying, Interface}
-use Rattle.demand3.specs.Lent.{Where, OnMap, on_map, proposing, OnBuffers, on_buffers, outlining}
+use Rattle.demand3.specs.Lent.{Where, WhereWritten, OnMap, on_map, proposing, OnBuffers, on_buffers, outlining}
 
 -- what a call does, by the register that it gets and over any bytes
 abbrev pub Does : (map : List ℕ) → Register → (c : Call) → Outcome c → Register → Type 0
@@ -65,7 +65,7 @@ module _ (draw : ℕ) (mask table : List ℕ) {A : Type 0} (means : A → Reply)
     (Pre : Lfts 3 → OnBuffers → Type 0) (Post : Lfts 3 → OnBuffers → A → OnBuffers → Type 0)
   where
     pub outlining-lawful : ((lives : Lfts 3) (given : OnBuffers) → Pre lives given) →
-        ((lives : Lfts 3) (lies masks tables : Where) (map : List ℕ) (r : Register) (a : A) (after entries : List ℕ) →
+        ((lives : Lfts 3) (lies : Where) (masks tables : WhereWritten) (map : List ℕ) (r : Register) (a : A) (after entries : List ℕ) →
         Post lives (on_buffers lies masks tables map r draw mask table) a (on_buffers lies masks tables map r draw after entries) →
         Leaves (footprint_on (read_map map) (in_force r.places) draw (length mask) (length table)) (means a) mask after table entries) →
         Lawful (outlining draw mask table means Pre Post)

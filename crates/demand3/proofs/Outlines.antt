@@ -13,7 +13,7 @@ use Rattle.lists.proofs.InPlace.{each_below, each_at}
 use Rattle.map.specs.Reading.{good}
 use Rattle.map.specs.Format.{Area, read_map}
 use Rattle.map.specs.Accepted.{AreaHolds, MapHolds}
-use Rattle.map.proofs.Accepted.{accepted, locates}
+use Rattle.map.proofs.Accepted.{accepted, locates, located-self}
 use Rattle.register.specs.declared.Licence.{Licence}
 use Rattle.coverage.specs.Cover.{holdings_of}
 use Rattle.proposal.specs.Answer.{Proposal, proposal}
@@ -22,7 +22,7 @@ use Rattle.rounds.specs.Footprint as outline
 use Rattle.rounds.proofs.Theorems.{right-same}
 use Rattle.footprint.specs.Footprint.{Footprint, refused, short, part_area, covered_cells, footprint_by}
 use Rattle.footprint.specs.Promises.{Reply, Leaves}
-use Rattle.footprint.proofs.ShareLaws.{OneShare, located-self}
+use Rattle.footprint.proofs.ShareLaws.{OneShare}
 use Rattle.footprint.proofs.CaseLaws.{Case, refuses, lacks, makes, cases}
 use Rattle.footprint.proofs.OutlineLaws.{outline-right}
 use Rattle.demand3.specs.Right.{Partial, FootprintRight}

@@ -9,18 +9,22 @@ use Rattle.footprint.specs.Promises.{Reply}
 use Rattle.demand3.specs.Calls.{propose, footprint, Outlined}
 use Rattle.demand3.specs.Interface.{Function}
 
--- where lent bytes or entries lie, and the name that their value goes by: any
-pub record Where : Type 0 where
+-- where bytes lie that are lent to be read: anywhere
+abbrev pub Where : Type 0
+Where = ℕ × ℕ
+
+-- what is lent from there
+abbrev pub lent : Where → List ℕ → Bor (List ℕ)
+lent w l = record { ref_ptr = w; now = l }
+
+-- where bytes or entries lie that are lent to be written, and the name that their value goes by: any
+pub record WhereWritten : Type 0 where
   pub ptr : ℕ × ℕ
   pub name : GName
 
--- what is lent from there to be read, which goes by no name
-abbrev pub lent : Where → List ℕ → Bor (List ℕ)
-lent w l = record { ref_ptr = w.ptr; now = l }
-
--- what is lent from there to be written
-abbrev pub lent_out : Where → List ℕ → MutBor (List ℕ)
-lent_out w l = record { ref_ptr = w.ptr; ghost_name = w.name; now = l }
+-- what is lent from there
+abbrev pub lent_to_write : WhereWritten → List ℕ → MutBor (List ℕ)
+lent_to_write w l = record { ref_ptr = w.ptr; ghost_name = w.name; now = l }
 
 -- ---- a proposal's function
 
@@ -55,16 +59,16 @@ proposing draw {A} number Says Pre Post = record {
 abbrev pub OnBuffers : Type 0
 OnBuffers = Bor (List ℕ) × (Register × (ℕ × (MutBor (List ℕ) × (MutBor (List ℕ) × Unit {0}))))
 
-abbrev pub on_buffers : (lies masks tables : Where) → (map : List ℕ) → Register → (draw : ℕ) → (mask table : List ℕ) → OnBuffers
-on_buffers lies masks tables map r draw mask table = (lent lies map, (r, (draw, (lent_out masks mask, (lent_out tables table, tt)))))
+abbrev pub on_buffers : (lies : Where) (masks tables : WhereWritten) → (map : List ℕ) → Register → (draw : ℕ) → (mask table : List ℕ) → OnBuffers
+on_buffers lies masks tables map r draw mask table = (lent lies map, (r, (draw, (lent_to_write masks mask, (lent_to_write tables table, tt)))))
 
 -- what it ensures, lent all three for some time; the mask and the table come back as it leaves them
 pub record Outlines {A : Type 0} (Post : Lfts 3 → OnBuffers → A → OnBuffers → Type 0) (map : List ℕ) (r : Register) (draw : ℕ)
     (mask table : List ℕ) (a : Outlined A) : Type 0 where
   pub lives : Lfts 3
   pub lies : Where
-  pub masks : Where
-  pub tables : Where
+  pub masks : WhereWritten
+  pub tables : WhereWritten
   pub post : Post lives (on_buffers lies masks tables map r draw mask table) a.answer
       (on_buffers lies masks tables map r draw a.mask a.table)
 
@@ -75,6 +79,6 @@ outlining draw mask table {A} means Pre Post = record {
   Answer = Outlined A;
   number = λ a. (means a.answer).refused;
   Says = λ a o. record { answer = means a.answer; mask = a.mask; table = a.table } ≡ o;
-  Asks = λ map r. (lives : Lfts 3) (lies masks tables : Where) → Pre lives (on_buffers lies masks tables map r draw mask table);
+  Asks = λ map r. (lives : Lfts 3) (lies : Where) (masks tables : WhereWritten) → Pre lives (on_buffers lies masks tables map r draw mask table);
   Step = λ map r a next. Outlines Post map r draw mask table a × (next ≡ r);
 }

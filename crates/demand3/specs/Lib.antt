@@ -3,5 +3,6 @@ pub mod Calls
 pub mod Ledger
 pub mod Interface
 pub mod Right
+pub mod Contract
 pub mod Lent
 pub mod FullWidth

@@ -20,8 +20,8 @@ unfolding ground_at
 returns c =
     rw (ne_eqb (get_or c.args.calls.now (c.args.at + 2) 0) 0 c.if-calls-at-eq0.false)
     (λ i. ground.Box (record {
-      south = (to_z-of_z {w = w32} (record { sfits = c.signed-south.type-inv }) ∙ c.signed-south.ensures) i;
-      north = (to_z-of_z {w = w32} (record { sfits = c.signed-north.type-inv }) ∙ c.signed-north.ensures) i;
-      west = (to_z-of_z {w = w32} (record { sfits = c.signed-west.type-inv }) ∙ c.signed-west.ensures) i;
-      east = (to_z-of_z {w = w32} (record { sfits = c.signed-east.type-inv }) ∙ c.signed-east.ensures) i;
+      south = (to_z-of_z {w = w32} (record { sfits = c.signed-south.type_inv }) ∙ c.signed-south.ensures) i;
+      north = (to_z-of_z {w = w32} (record { sfits = c.signed-north.type_inv }) ∙ c.signed-north.ensures) i;
+      west = (to_z-of_z {w = w32} (record { sfits = c.signed-west.type_inv }) ∙ c.signed-west.ensures) i;
+      east = (to_z-of_z {w = w32} (record { sfits = c.signed-east.type_inv }) ∙ c.signed-east.ensures) i;
     }))

@@ -28,8 +28,8 @@ loop-i-preserved c =
     let a = c.args in
     let r = c.play_item-next in
     playing-turns a.map.now a.calls.now a.mask.now a.table.now l.invariant c.loop-i-test.true
-    r.result r.new.1.1.1.1.0 r.new.1.1.1.1.1.0 c.one_refused-refused.result c.if-not-next.false
-    r.ensures c.one_refused-refused.ensures r.auto.1.1.1.1.0 r.auto.1.1.1.1.1.0
+    r.result r.new.mask r.new.table c.one_refused-refused.result c.if-not-next.false
+    r.ensures c.one_refused-refused.ensures r.auto.mask r.auto.table
 
 pub shape_of-mask-after-loop-i : goal.shape_of-mask-after-loop-i
 shape_of-mask-after-loop-i c = c.loop-i.invariant.mask_size
@@ -50,4 +50,4 @@ returns-then-not-next c =
     let a = c.args in
     let r = c.play_item-next in
     playing-stops a.map.now a.calls.now a.mask.now a.table.now l.invariant
-    r.result r.new.1.1.1.1.0 r.new.1.1.1.1.1.0 c.if-not-next.true r.ensures
+    r.result r.new.mask r.new.table c.if-not-next.true r.ensures

@@ -8,13 +8,13 @@ returns c =
     let f = c.footprint-answer in
     record {
       made = refl;
-      answer = record { answer = f.result; mask = f.new.1.1.1.0; table = f.new.1.1.1.1.0 };
+      answer = record { answer = f.result; mask = f.new.mask; table = f.new.table };
       steps = (
         record {
           lives = f.lifetimes;
-          lies = record { ptr = c.args.map.ptr; name = c.args.map.name };
-          masks = record { ptr = c.args.mask.ptr; name = c.args.mask.name };
-          tables = record { ptr = c.args.table.ptr; name = c.args.table.name };
+          lies = c.args.map.ref_ptr;
+          masks = record { ptr = c.args.mask.ref_ptr; name = c.args.mask.ghost_name };
+          tables = record { ptr = c.args.table.ref_ptr; name = c.args.table.ghost_name };
           post = f.ensures;
         },
         refl,

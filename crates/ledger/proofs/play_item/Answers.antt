@@ -1,6 +1,7 @@
 -- `ledger::play_item`: the first word says which call it is, and the arms make it. Assumes nothing.
 use mathlib.Core.Path.{subst, refl, sym}
 use mathlib.Core.Bool.{false}
+use native.Mathlib.Omega.{arith}
 use lib.ListN.{get_or}
 use Prim.Native.Nat.{◌+◌}
 use Rattle.demand3.specs.Calls.{without, mhz}
@@ -41,8 +42,8 @@ returns-in-3 c =
     let k = c.in-3.is in
     let a = c.args in
     let f = c.play_footprint in
-    subst (λ (item : Item). ItemDone a.map.now a.register item a.mask.now f.new.1.1.1.0 a.table.now
-    f.new.1.1.1.1.0 f.result)
+    subst (λ (item : Item). ItemDone a.map.now a.register item a.mask.now f.new.mask a.table.now
+    f.new.table f.result)
     (item-footprint a.calls.now a.at a.mask.now a.table.now k)
     f.ensures
 
@@ -59,9 +60,7 @@ returns-in-4 c =
 pub returns-in_default : goal.returns-in_default
 returns-in_default c =
     let a = c.args in
-    let m = c.in_default.rest in
     subst (λ (item : Item). ItemDone a.map.now a.register item a.mask.now a.mask.now a.table.now a.table.now
     (record { made = false; register = a.register; number = 0 }))
-    (item-unknown a.calls.now a.at a.mask.now a.table.now m.0.0.0.0.1
-    m.0.0.0.1 m.0.0.1 m.0.1 m.1)
+    (item-unknown a.calls.now a.at a.mask.now a.table.now (omega arith) (omega arith) (omega arith) (omega arith) (omega arith))
     (record { none = refl; register = refl; masks = refl; tables = refl })

@@ -10,7 +10,7 @@ returns c =
     λ mask table. record {
       made = refl;
       answer = p.result;
-      steps = (record { lives = p.lifetimes; lies = record { ptr = map.ptr; name = map.name }; post = p.ensures }, refl);
+      steps = (record { lives = p.lifetimes; lies = map.ref_ptr; post = p.ensures }, refl);
       masks = refl;
       tables = refl;
       refused = c.refusal.ensures;
