@@ -15,7 +15,7 @@ use Rattle.lists.proofs.Tests.{by-test, not-both, first_of, second-of, leb-same}
 use Rattle.lists.proofs.BelowLaws.{sum-test, sum-split}
 use Rattle.lists.proofs.FilterLaws.{mem-filter, filter_same, among-mem}
 use Rattle.subset.specs.Sets.{sets, taken_of, total_of}
-use Rattle.subset.specs.Rule.{greatest, within, the_subset, Chosen}
+use Rattle.subset.specs.Rule.{within, the_subset, Chosen}
 use Rattle.subset.proofs.SetLaws.{sets-length}
 use Rattle.subset.proofs.RuleLaws.{the-subset-chosen}
 use Rattle.ring.specs.Ring.{Places}

@@ -1,14 +1,9 @@
 -- `rounds::all_rounds`: the invariant is `Going`, and each round that is made leaves less (`falls`). Assumes nothing.
 use Prim.Native.Nat.{◌*◌}
-use borrow.Author.Rules.{rules}
-use borrow.Author.Tests.{not-true, not-false}
 use Rattle.ring.specs.Ring.{shown}
-use Rattle.rounds.specs.Footprint.{PartArea}
 use Rattle.rounds.specs.Promises.{area_of}
-use Rattle.rounds.specs.Code.{people_with}
 use Rattle.rounds.proofs.Rounds.{remaining}
-use Rattle.rounds.proofs.LimitLaws.{mask-sizes}
-use Rattle.rounds.proofs.RoundLaws.{Going, going-starts, going-within, going_less, going-turns, going-ends}
+use Rattle.rounds.proofs.RoundLaws.{Going}
 use Rattle.rounds.proofs.all_rounds.Given as goal
 
 abbrev pub invariant-loop-share : goal.invariant-loop-share

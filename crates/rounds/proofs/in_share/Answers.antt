@@ -1,6 +1,5 @@
 -- `rounds::in_share`: by the direction. Assumes nothing.
 use mathlib.Core.Path.{◌∙◌}
-use borrow.Author.Rules.{rules}
 use Rattle.rounds.proofs.in_share.Goals as goal
 
 pub returns-then-grow : goal.returns-then-grow

@@ -1,6 +1,5 @@
 -- `rounds::next_people`: by the direction. Assumes nothing.
 use native.Mathlib.Omega.{arith}
-use borrow.Author.Rules.{rules}
 use Rattle.rounds.proofs.next_people.Goals as goal
 
 pub returns-then-grow : goal.returns-then-grow

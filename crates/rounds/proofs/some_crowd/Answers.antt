@@ -1,7 +1,5 @@
 -- `rounds::some_crowd`: no number before i is above the limit, and i grows. Assumes nothing.
-use Prim.Native.Nat.{◌-◌}
-use borrow.Author.Rules.{rules}
-use Rattle.rounds.proofs.LimitLaws.{Passed, passed-starts, passed-turns, passed-found, passed-ends}
+use Rattle.rounds.proofs.LimitLaws.{passed-starts, passed-turns, passed-found, passed-ends}
 use Rattle.rounds.proofs.some_crowd.Goals as goal
 
 pub loop-i-init : goal.loop-i-init

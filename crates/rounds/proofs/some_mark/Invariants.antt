@@ -1,7 +1,6 @@
 -- `rounds::some_mark`: no number before i is above the limit, and i grows. Assumes nothing.
 use Prim.Native.Nat.{◌-◌}
-use borrow.Author.Rules.{rules}
-use Rattle.rounds.proofs.LimitLaws.{Passed, passed-starts, passed-turns, passed-found, passed-ends}
+use Rattle.rounds.proofs.LimitLaws.{Passed}
 use Rattle.rounds.proofs.some_mark.Given as goal
 
 abbrev pub invariant-loop-i : goal.invariant-loop-i

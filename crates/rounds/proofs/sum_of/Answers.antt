@@ -1,8 +1,6 @@
 -- `rounds::sum_of`: the sum is that of the places before i. Assumes nothing.
-use Prim.Native.Nat.{◌-◌}
 use native.Mathlib.Omega.{arith}
-use borrow.Author.Rules.{rules}
-use Rattle.rounds.proofs.LimitLaws.{Counted, counted-starts, adds-few, counted-turns, counted-ends}
+use Rattle.rounds.proofs.LimitLaws.{counted-starts, adds-few, counted-turns, counted-ends}
 use Rattle.rounds.proofs.sum_of.Goals as goal
 
 pub loop-i-init : goal.loop-i-init

@@ -1,8 +1,6 @@
 -- `rounds::sum_of`: the sum is that of the places before i. Assumes nothing.
 use Prim.Native.Nat.{◌-◌}
-use native.Mathlib.Omega.{arith}
-use borrow.Author.Rules.{rules}
-use Rattle.rounds.proofs.LimitLaws.{Counted, counted-starts, adds-few, counted-turns, counted-ends}
+use Rattle.rounds.proofs.LimitLaws.{Counted}
 use Rattle.rounds.proofs.sum_of.Given as goal
 
 abbrev pub invariant-loop-i : goal.invariant-loop-i

@@ -1,6 +1,5 @@
 -- `rounds::value_of`: V is within a u64, so the product is exact. Assumes nothing.
 use mathlib.Core.Path.{◌∙◌}
-use borrow.Author.Rules.{rules}
 use Rattle.rounds.proofs.LimitLaws.{value-exact}
 use Rattle.rounds.proofs.value_of.Goals as goal
 
