@@ -8,7 +8,7 @@ use lib.Dec.{ltb, leb, eqb}
 use lib.ListN.{length, get_or, take, drop, length-map, drop_of_length-le}
 use borrow.Author.Tests.{eqb-true, eqb-false, eq-eqb, ne_eqb, leb-true, lt-ltb, le-ltb}
 use Rattle.lists.specs.Sums.{All}
-use Rattle.lists.proofs.Tests.{by-test, not-both, first_of, second-of}
+use Rattle.lists.proofs.Tests.{by-test, first_of, second-of}
 use Rattle.lists.proofs.SumLaws.{drop-next}
 use Rattle.map.specs.Format.{within}
 use Rattle.map.specs.Answers.{fault_number}
@@ -141,13 +141,6 @@ record-bounded r hs size e z =
     )
 
 -- ---- the fault of an area, by its tests in turn
-
--- a test that the code makes, failed or passed
-pub fails : {a b : Bool} → a ≡ b → not a ≡ true → b ≡ false
-fails {a} e t = by-test a (λ p. not-both t (ap not p)) (λ p. sym e ∙ p)
-
-pub passes : {a b : Bool} → a ≡ b → not a ≡ false → b ≡ true
-passes {a} e t = by-test a (λ p. sym e ∙ p) (λ p. not-both (ap not p) t)
 
 module _ (before : ℕ) (k : Kept) where
   pub fault-number : within 1 416 k.number ≡ false → 2 ≡ area_fault before k

@@ -1,7 +1,7 @@
 -- From the areas of a map, counted in one pass, to the entries of a record: loading, and sums added or subtracted. Assumes nothing.
 use Prim.Native.Nat.{ℕ, zero, suc, ◌+◌, ◌-◌, ◌≤◌, ◌<◌}
 use mathlib.Core.Path.{◌≡◌, refl, sym, ap, ◌∙◌, fun_ext}
-use mathlib.Core.Bool.{true, false, cond}
+use mathlib.Core.Bool.{Bool, true, false, cond}
 use mathlib.Core.List.{List, [], ◌∷◌, ◌++◌, map, map-append, map-map}
 use native.Mathlib.Omega.{arith}
 use lib.Dec.{eqb}
@@ -97,6 +97,10 @@ load-done (good areas end) r h e d k =
     )
 
 -- ---- sums added and subtracted
+
+-- what becomes of an entry by the areas counted
+abbrev pub change : Bool → List Holding → Kept → Kept
+change adds areas k = moved adds (sums_in k.number areas) k
 
 -- the sums of an area of the map
 abbrev located : List Licence → Located → AreaSums

@@ -93,7 +93,8 @@ module _ (ps : List FlatLicence) where
 
   pub last-starts : {n : ℕ} → length ps ≡ n → NonePast n
   last-starts {n} e i b =
-      ap (λ p. passes_at has_box (licence_of p)) (get_or-eq_default ps free_place (omega arith)) ∙ free-passes (licence_of free_place) has_box refl
+      ap (λ p. passes_at has_box (licence_of p)) (get_or-eq_default ps free_place (omega arith))
+      ∙ free-passes (licence_of free_place) has_box refl
 
   pub last-turns : {n : ℕ} → NonePast n → passes_at has_box (licence_of (get_or ps (n - 1) free_place)) ≡ false → NonePast (n - 1)
   last-turns {n} past h i b =

@@ -315,7 +315,8 @@ not-reached (suc i) s (p ∷ ps) = not-reached i s ps
 
 -- a turn of the loop over the places: `now` are the places before the turn, `new` those after it
 module _ (i s : ℕ) (old now new : List FlatLicence) (b : i < length old) (e : now ≡ release_to i s old) where
-  one_more : set now i (cond (has_sign s (licence_of (get_or now i free_place))) free_place (get_or now i free_place)) ≡ release_to (i + 1) s old
+  one_more : set now i (cond (has_sign s (licence_of (get_or now i free_place))) free_place (get_or now i free_place))
+      ≡ release_to (i + 1) s old
   one_more = rw (add-one, e) (go i old b)
     where
       go : (i : ℕ) (ps : List FlatLicence) → i < length ps →

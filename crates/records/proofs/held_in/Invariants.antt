@@ -1,11 +1,6 @@
 -- `records::held_in`: each area as a proposal reads it, one area a turn. Assumes nothing.
-use Prim.Native.Nat.{◌-◌}
-use mathlib.Core.Path.{◌≡◌, refl}
-use native.Mathlib.Omega.{arith}
-use lib.ListN.{length}
-use borrow.Author.Rules.{rules}
-use Rattle.lists.proofs.ArrayLoops.{Filled, fill-turns, fill-ends}
-use Rattle.records.specs.Record.{no_kept}
+use Rattle.std.proofs.Common.{◌-◌}
+use Rattle.lists.proofs.ArrayLoops.{Filled}
 use Rattle.records.specs.Code.{held_by}
 use Rattle.records.proofs.held_in.Given as goal
 

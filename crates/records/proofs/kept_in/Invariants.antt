@@ -1,11 +1,6 @@
 -- `records::kept_in`: what is kept of each area, one area a turn. Assumes nothing.
-use Prim.Native.Nat.{◌-◌}
-use mathlib.Core.Path.{◌≡◌, refl}
-use native.Mathlib.Omega.{arith}
-use lib.ListN.{length}
-use borrow.Author.Rules.{rules}
-use Rattle.lists.proofs.ArrayLoops.{Filled, fill-turns, fill-ends}
-use Rattle.coverage.specs.Answers.{no_holding}
+use Rattle.std.proofs.Common.{◌-◌}
+use Rattle.lists.proofs.ArrayLoops.{Filled}
 use Rattle.records.specs.Record.{kept}
 use Rattle.records.proofs.kept_in.Given as goal
 

@@ -1,6 +1,5 @@
 -- `records::Kept::after`: an entry stays where no area has its number. Assumes nothing.
 use mathlib.Core.Path.{sym, ap, ◌∙◌}
-use borrow.Author.Rules.{rules}
 use Rattle.records.specs.Code.{moved}
 use Rattle.records.proofs.Kept.after.Goals as goal
 

@@ -1,6 +1,5 @@
 -- `records::Kept::changed`: both sums added or subtracted. Assumes nothing.
 use mathlib.Core.Path.{◌∙◌}
-use borrow.Author.Rules.{rules}
 use Rattle.lists.proofs.Tests.{takes, leaves}
 use Rattle.records.proofs.Kept.changed.Goals as goal
 

@@ -1,6 +1,5 @@
 -- `records::Record::after`: nothing changes after a refusal. Assumes nothing.
 use mathlib.Core.Path.{◌∙◌}
-use borrow.Author.Rules.{rules}
 use borrow.Author.Tests.{eq-eqb, ne_eqb}
 use Rattle.lists.proofs.Tests.{takes, leaves}
 use Rattle.records.proofs.Record.after.Goals as goal

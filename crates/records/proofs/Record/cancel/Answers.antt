@@ -4,7 +4,6 @@ use mathlib.Core.Bool.{false, cond}
 use Prim.Native.Nat.{ℕ}
 use lib.Dec.{eqb}
 use lib.ListN.{take}
-use borrow.Author.Rules.{rules}
 use Rattle.map.specs.Format.{read_map}
 use Rattle.register.specs.declared.Step.{Step}
 use Rattle.register.specs.Licences.{in_force}
@@ -26,9 +25,9 @@ returns-in-Accepted c =
     let a = c.args in
     let step : Step = record { next = c.cancel-cancelled.result.next; refusal = cancel_number c.cancel-cancelled.result.answer } in
     map-accepts (read_map a.map.now) (in_force only.result.places) c.holdings_in-held.result a.register a.self
-    (CancelStep a.register a.call-sign) _ c.holdings_in-held.ensures c.in-Accepted.is step c.after-self.result
+    (CancelStep a.register a.call_sign) _ c.holdings_in-held.ensures c.in-Accepted.is step c.after-self.result
     c.cancel-cancelled.ensures
-    (λ areas e. cancel-moves a.register only.result a.call-sign only.ensures a.self c.after-self.result
+    (λ areas e. cancel-moves a.register only.result a.call_sign only.ensures a.self c.after-self.result
     step.refusal (take c.holdings_in-held.result.count c.holdings_in-held.result.areas) areas e
     (c.after-self.ensures ∙ ap (λ (n : ℕ). cond (eqb n 0)
     (moved_all false (take c.holdings_in-held.result.count c.holdings_in-held.result.areas) a.self) a.self) c.number.ensures))

@@ -4,7 +4,6 @@ use mathlib.Core.Bool.{true, cond}
 use Prim.Native.Nat.{ℕ}
 use lib.Dec.{eqb}
 use lib.ListN.{take}
-use borrow.Author.Rules.{rules}
 use Rattle.map.specs.Format.{read_map}
 use Rattle.register.specs.declared.Step.{Step}
 use Rattle.register.specs.Licences.{in_force}

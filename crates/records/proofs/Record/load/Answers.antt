@@ -1,5 +1,4 @@
 -- `records::Record::load`: what is kept of each area of the map. Assumes nothing.
-use borrow.Author.Rules.{rules}
 use Rattle.map.specs.Format.{read_map}
 use Rattle.records.proofs.HeldLaws.{load-done}
 use Rattle.records.proofs.Record.load.Goals as goal
