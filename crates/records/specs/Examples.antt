@@ -4,7 +4,6 @@ use Rattle.std.specs.Prelude.{ℕ, ◌-◌, ◌≡◌, refl, Bool, true, false, 
 use Rattle.units.specs.Sums.{largest, capped}
 use Rattle.map.specs.Format.{Place, cell, Area}
 use Rattle.map.specs.Answers.{locate}
-use Rattle.register.specs.declared.Ground.{Ground}
 use Rattle.register.specs.declared.Ground.TheVariants as ground
 use Rattle.register.specs.declared.Licence.{Licence}
 use Rattle.register.specs.Licences.{full_licence}
