@@ -43,26 +43,6 @@ pub record Flattened (areas : List AreaAnswer) (i : ℕ) (given : List Given) : 
   pub room : length given ≡ 32
   pub each : take i given ≡ map flat (take i areas)
 
-pub flat-turns : {areas : List AreaAnswer} {i : ℕ} {given : List Given} {g : Given} → length areas ≡ 32 → Flattened areas i given → i < 32
-    → g ≡ flat (get_or areas i blank) → Flattened areas (i + 1) (set given i g)
-flat-turns {areas} {i} {given} {g} long w h e =
-    let room = w.room in
-    record {
-      within = omega arith;
-      room = length-set given i g ∙ w.room;
-      each =
-          ap (λ (j : ℕ). take j (set given i g)) (add-one i) ∙ take-suc-set given i g (omega arith)
-          ∙ (λ k. w.each k ++ (e k ∷ []))
-          ∙ sym (map-append flat (take i areas) (get_or areas i blank ∷ []))
-          ∙ ap (map flat) (sym (ap (λ (j : ℕ). take j areas) (add-one i) ∙ take-suc areas i blank (omega arith)));
-    }
-
-pub flat-ends : {areas : List AreaAnswer} {i : ℕ} {given : List Given} → length areas ≡ 32 → Flattened areas i given → 32 ≤ i
-    → given ≡ map flat areas
-flat-ends {areas} {i} {given} long w h =
-    let room = w.room in
-    sym (take_all i given (omega arith)) ∙ w.each ∙ ap (map flat) (take_all i areas (omega arith))
-
 -- ---- the proposal
 
 map-replicate : (n : ℕ) → map flat (replicate n blank) ≡ replicate n none_given

@@ -1,5 +1,5 @@
--- Document 01, "The list of demand 3", through the C interface: what is known of each exported function is its own contract, as in
--- ledger's specs/Engine. What lists, runs and demand 3 are stands in `demand3`. Assumes nothing.
+-- Document 01, "The list of demand 3", through the C interface: what is known of each exported function is its own contract, read off the
+-- clauses in the source, as in ledger's specs/Engine. What lists, runs and demand 3 are stands in `demand3`. Assumes nothing.
 use Rattle.std.specs.Prelude.{ℕ, ◌≡◌}
 use Rattle.register.specs.declared.Ground.{Ground}
 use Rattle.register.specs.declared.FlatLicence.{FlatLicence}
@@ -7,15 +7,38 @@ use Rattle.register.specs.Licences.{ground_of}
 use Rattle.proposal.specs.Answer.{AreaCells}
 use Rattle.abi.specs.declared.Given.{Given}
 use Rattle.abi.specs.Flat.{flat_proposal, outline_means}
-use Rattle.abi.proofs.codwalet_empty.Reads as empty-reads
-use Rattle.abi.proofs.codwalet_grant.Reads as grant-reads
-use Rattle.abi.proofs.codwalet_grant_width.Reads as width-reads
-use Rattle.abi.proofs.codwalet_cancel.Reads as cancel-reads
-use Rattle.abi.proofs.codwalet_propose.Reads as propose-reads
-use Rattle.abi.proofs.codwalet_footprint.Reads as footprint-reads
+use Rattle.abi.specs.contracts.codwalet_empty as empty-fn
+use Rattle.abi.specs.contracts.codwalet_grant as grant-fn
+use Rattle.abi.specs.contracts.codwalet_grant_width as width-fn
+use Rattle.abi.specs.contracts.codwalet_cancel as cancel-fn
+use Rattle.abi.specs.contracts.codwalet_propose as propose-fn
+use Rattle.abi.specs.contracts.codwalet_footprint as footprint-fn
 use Rattle.demand3.specs.Calls.{without, mhz, Call, grant, cancel, propose, footprint}
 use Rattle.demand3.specs.Interface.{Function, Interface}
+use Rattle.demand3.specs.Contract.{nothing, says, Contract, Asks, Ensures}
 use Rattle.demand3.specs.Lent.{proposing, outlining}
+
+-- ---- the functions' contracts: none has a `requires`, and each has one `ensures`
+
+abbrev empty-contract : Contract empty-fn.ended (λ w. empty-fn.clauses w.𝓛 w.𝓜.mem w.𝓡.returns) (λ w lives given. tt)
+empty-contract = record { requires = λ lives given. nothing; ensures = λ lives given result left. says _ }
+
+abbrev grant-contract : Contract grant-fn.ended (λ w. grant-fn.clauses w.𝓛 w.𝓜.mem w.𝓡.returns) (λ w lives given. tt)
+grant-contract = record { requires = λ lives given. nothing; ensures = λ lives given result left. says _ }
+
+abbrev width-contract : Contract width-fn.ended (λ w. width-fn.clauses w.𝓛 w.𝓜.mem w.𝓡.returns) (λ w lives given. tt)
+width-contract = record { requires = λ lives given. nothing; ensures = λ lives given result left. says _ }
+
+abbrev cancel-contract : Contract cancel-fn.ended (λ w. cancel-fn.clauses w.𝓛 w.𝓜.mem w.𝓡.returns) (λ w lives given. tt)
+cancel-contract = record { requires = λ lives given. nothing; ensures = λ lives given result left. says _ }
+
+abbrev propose-contract : Contract propose-fn.ended (λ w. propose-fn.clauses w.𝓛 w.𝓜.mem w.𝓡.returns) (λ w lives given. tt)
+propose-contract = record { requires = λ lives given. nothing; ensures = λ lives given result left. says _ }
+
+abbrev footprint-contract : Contract footprint-fn.ended (λ w. footprint-fn.clauses w.𝓛 w.𝓜.mem w.𝓡.returns) (λ w lives given. tt)
+footprint-contract = record { requires = λ lives given. nothing; ensures = λ lives given result left. says _ }
+
+-- ---- the interface
 
 -- a call sign and a ground as the caller laid them out, for a grant that ensures `Post`
 pub record Grants (s : ℕ) (g : Ground) (Post : FlatLicence → Type 0) : Type 0 where
@@ -31,36 +54,36 @@ function (grant s g without) = record {
   Answer = ℕ;
   number = λ n. n;
   Says = λ n m. n ≡ m;
-  Asks = λ map r. (given : FlatLicence) → grant-reads.Pre tt (r, (given, tt));
+  Asks = λ map r. (given : FlatLicence) → Asks grant-contract tt (r, (given, tt));
   Step = λ map r n next.
-      Grants s g (λ given. grant-reads.Post tt (r, (given, tt)) (record { next = next; refusal = n }) (r, (given, tt)));
+      Grants s g (λ given. Ensures grant-contract tt (r, (given, tt)) (record { next = next; refusal = n }) (r, (given, tt)));
 }
 -- `codwalet_grant_width(r, given, width)`
 function (grant s g (mhz width)) = record {
   Answer = ℕ;
   number = λ n. n;
   Says = λ n m. n ≡ m;
-  Asks = λ map r. (given : FlatLicence) → width-reads.Pre tt (r, (given, (width, tt)));
+  Asks = λ map r. (given : FlatLicence) → Asks width-contract tt (r, (given, (width, tt)));
   Step = λ map r n next.
       Grants s g (λ given.
-      width-reads.Post tt (r, (given, (width, tt))) (record { next = next; refusal = n }) (r, (given, (width, tt))));
+      Ensures width-contract tt (r, (given, (width, tt))) (record { next = next; refusal = n }) (r, (given, (width, tt))));
 }
 -- `codwalet_cancel(r, s)`
 function (cancel s) = record {
   Answer = ℕ;
   number = λ n. n;
   Says = λ n m. n ≡ m;
-  Asks = λ map r. cancel-reads.Pre tt (r, (s, tt));
-  Step = λ map r n next. cancel-reads.Post tt (r, (s, tt)) (record { next = next; refusal = n }) (r, (s, tt));
+  Asks = λ map r. Asks cancel-contract tt (r, (s, tt));
+  Step = λ map r n next. Ensures cancel-contract tt (r, (s, tt)) (record { next = next; refusal = n }) (r, (s, tt));
 }
 -- `codwalet_propose(map, r, draw)`
-function (propose draw) = proposing draw (λ a. a.refusal) (λ a p. a ≡ flat_proposal p) propose-reads.Pre propose-reads.Post
+function (propose draw) = proposing draw (λ a. a.refusal) (λ a p. a ≡ flat_proposal p) (Asks propose-contract) (Ensures propose-contract)
 -- `codwalet_footprint(map, r, draw, mask, table)`
-function (footprint draw mask table) = outlining draw mask table outline_means footprint-reads.Pre footprint-reads.Post
+function (footprint draw mask table) = outlining draw mask table outline_means (Asks footprint-contract) (Ensures footprint-contract)
 
 -- the exported functions; an empty register is `codwalet_empty()`
 abbrev pub exported : Interface
-exported = record { EmptyAsks = empty-reads.Pre tt tt; Empties = λ r. empty-reads.Post tt tt r tt; function = function }
+exported = record { EmptyAsks = Asks empty-contract tt tt; Empties = λ r. Ensures empty-contract tt tt r tt; function = function }
 
 -- document 02, Paper 1: "The proposal shows the sum of cells for each map area": an area's number with the sum that its entry shows
 abbrev pub cells_out : Given → AreaCells

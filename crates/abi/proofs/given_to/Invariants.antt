@@ -1,10 +1,6 @@
 -- `abi::given_to`: what each area is given, one area a turn. Assumes nothing.
 use Prim.Native.Nat.{◌-◌}
-use mathlib.Core.Path.{◌≡◌, refl}
-use native.Mathlib.Omega.{arith}
-use lib.ListN.{length}
-use borrow.Author.Rules.{rules}
-use Rattle.abi.proofs.FlatLaws.{Flattened, flat-turns, flat-ends}
+use Rattle.abi.proofs.FlatLaws.{Flattened}
 use Rattle.abi.proofs.given_to.Given as goal
 
 abbrev pub invariant-loop-i : goal.invariant-loop-i
