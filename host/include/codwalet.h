@@ -1,5 +1,5 @@
 /*
- * Codwalet's C interface: the functions of crates/abi, in the archive target/staticlib/libabi.a (x86-64; it needs
+ * Codwalet's C interface: the exports of crates/abi_c, in the archive target/staticlib/libabi.a (x86-64; it needs
  * memcpy and memset, and nothing else).
  *
  * Every function takes any input and returns: no map, register, licence, number, draw or buffer makes one fault or hang.

@@ -3,7 +3,6 @@
 use Rattle.std.specs.Prelude.{ℕ, Bool, true, false, ◌&&◌, List, [], ◌∷◌, eqb, ℤ, pos, negsuc}
 use Rattle.map.specs.Reading.{Read, bad, good}
 use Rattle.map.specs.Format.{Place, gap, cell, Area}
-use Rattle.register.specs.declared.Ground.{Ground}
 use Rattle.register.specs.declared.Ground.TheVariants as ground
 use Rattle.register.specs.declared.Licence.{Licence}
 use Rattle.register.specs.Licences.{full_licence}
@@ -79,7 +78,7 @@ of_box s n w e = full_licence 1 (ground.Box (record { south = s; north = n; west
 
 -- the same licence at another width
 abbrev wide : ℕ → Licence → Licence
-wide w l = let ground : Ground = l.ground in record { call_sign = l.call_sign; ground = ground; width = w }
+wide w l = record l { width = w }
 
 -- the licences in force, c and the sum of cells
 pub data CoverRow : Type 0 where

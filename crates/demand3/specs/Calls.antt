@@ -17,7 +17,7 @@ width_of without = full_width
 width_of (mhz n) = n
 
 -- the licence that a grant is of: its call sign, its ground and its width
-abbrev pub licence : (s : ℕ) → Ground → Width → Licence
+abbrev pub licence : (s : ℕ) → (ground : Ground) → Width → Licence
 licence s g w = record { call_sign = s; ground = g; width = width_of w }
 
 -- "The list of demand 3": a call with its arguments, but for the register and the map. "Draws, masks and tables may be any at each

@@ -56,7 +56,7 @@ boxed sign = full_licence sign over_two
 -- document 02, Paper 4: n licences of the same width over columns 2 and 3
 abbrev pub slices : (n width : ℕ) → List Licence
 slices zero width = []
-slices (suc n) width = record { call_sign = suc n; ground = over_two; width = width } ∷ slices n width
+slices (suc n) width = record (boxed (suc n)) { width = width } ∷ slices n width
 
 -- ---- the table
 

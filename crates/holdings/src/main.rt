@@ -3,7 +3,7 @@
 // `host/run cases --write` writes the cases and, by an implementation of its own, the lines that must come out.
 #![tactic(auto)]
 
-ghost use Rattle.std.specs.Prelude.{◌≡◌, ◌+◌, ◌<◌, ◌≤◌, length};
+ghost use Rattle.std.specs.Prelude.{◌≡◌, ◌+◌, ◌<◌, ◌≤◌, IfOk, length};
 
 use coverage::{BlocksAnswer, CoverageAnswer};
 use footprint::FootprintAnswer;
@@ -11,6 +11,8 @@ use map::fields::Field;
 use map::{Found, fields};
 use proposal::{AreaAnswer, Gets, Proposal};
 use register::{GeoBox, Ground, Licence, Register};
+use std::io;
+use std::io::Read;
 
 // How many bytes a case took, and the register that it leaves.
 #[derive(Clone, Copy)]
@@ -19,68 +21,69 @@ struct Played {
     register: Register,
 }
 
-fn main() {
-    let first = play_block(Register::empty());
-    let second = play_block(first);
-    play_block(second);
+fn main(rt: HostRuntime) -> io::Result<()> {
+    let first = play_block(&rt, Register::empty())?;
+    let second = play_block(&rt, first)?;
+    play_block(&rt, second)?;
+    Ok(())
 }
 
 // The next block of the file, which may be empty, and the register that it leaves.
-fn play_block(register: Register) -> Register {
-    let mut cases = io::large_buffer();
-    let n = io::read_full(0, &mut cases);
-    play_all(&cases[..n], register)
+fn play_block(rt: &(impl Input + Print + AllocGlobal), register: Register) -> io::Result<Register> {
+    let mut cases = Vec::new(rt.alloc());
+    rt.reader().take(65536).read_to_end(&mut cases)?;
+    play_all(rt, &cases, register)
 }
 
-fn play_all(s: &[u8], start: Register) -> Register {
+fn play_all(rt: &impl Print, s: &[u8], start: Register) -> io::Result<Register> {
     let mut at: usize = 0;
     let mut register = start;
     while at < s.len() {
-        let done = play(&s[at..], register);
+        let done = play(rt, &s[at..], register)?;
         at += done.used;
         let next = done.register;
         register = next;
     }
-    register
+    Ok(register)
 }
 
 // One case, by its first byte: M a map, G a grant without a width, W a grant with one, C a cancellation, E an empty register,
 // P proposals, F footprints, L a list of calls. Anything else ends the block.
-fn play(s: &[u8], register: Register) -> Played
+fn play(rt: &impl Print, s: &[u8], register: Register) -> io::Result<Played>
     requires { 0 < length s.now }
-    ensures { (0 < result.used) × (result.used ≤ length s.now) }
+    ensures { IfOk result (λ done. (0 < done.used) × (done.used ≤ length s.now)) }
 {
     let kind = s[0];
     let rest = &s[1..];
     match kind {
         b'M' => {
-            let used = 1 + map_case(rest);
-            Played { used, register }
+            let used = 1 + map_case(rt, rest)?;
+            Ok(Played { used, register })
         }
-        b'G' => grant_case(s, 24, register),
-        b'W' => grant_case(s, 28, register),
-        b'C' => cancel_case(s, register),
+        b'G' => grant_case(rt, s, 24, register),
+        b'W' => grant_case(rt, s, 28, register),
+        b'C' => cancel_case(rt, s, register),
         b'E' => {
-            line(b"empty");
+            line(rt, "empty")?;
             let empty = Register::empty();
-            Played {
+            Ok(Played {
                 used: 1,
                 register: empty,
-            }
+            })
         }
         b'P' => {
-            let used = 1 + proposal_case(rest, register);
-            Played { used, register }
+            let used = 1 + proposal_case(rt, rest, register)?;
+            Ok(Played { used, register })
         }
         b'F' => {
-            let used = 1 + footprint_case(rest, register);
-            Played { used, register }
+            let used = 1 + footprint_case(rt, rest, register)?;
+            Ok(Played { used, register })
         }
-        b'L' => list_case(s, register),
-        _ => Played {
+        b'L' => list_case(rt, s, register),
+        _ => Ok(Played {
             used: s.len(),
             register,
-        },
+        }),
     }
 }
 
@@ -99,56 +102,56 @@ fn map_end(s: &[u8]) -> usize
 }
 
 // A map: its length, its bytes, and the numbers that are looked up in it.
-fn map_case(s: &[u8]) -> usize
-    ensures { result ≤ length s.now }
+fn map_case(rt: &impl Print, s: &[u8]) -> io::Result<usize>
+    ensures { IfOk result (λ used. used ≤ length s.now) }
 {
     let end = map_end(s);
     if end < 4 {
-        return s.len();
+        return Ok(s.len());
     }
     let map = &s[4..end];
-    print(b"map", map::check(map).number() as u64);
-    end + look_ups(&s[end..], map)
+    print(rt, "map", map::check(map).number() as u64)?;
+    Ok(end + look_ups(rt, &s[end..], map)?)
 }
 
 // A count of numbers, and the numbers.
-fn look_ups(s: &[u8], map: &[u8]) -> usize
-    ensures { result ≤ length s.now }
+fn look_ups(rt: &impl Print, s: &[u8], map: &[u8]) -> io::Result<usize>
+    ensures { IfOk result (λ used. used ≤ length s.now) }
 {
     if s.len() == 0 {
-        return 0;
+        return Ok(0);
     }
     let count = s[0];
     let mut used: usize = 1;
     let mut i: u8 = 0;
     while i < count {
         if s.len() - used < 2 {
-            return s.len();
+            return Ok(s.len());
         }
-        look_up(map, u16_at(s, used));
+        look_up(rt, map, u16_at(s, used))?;
         used += 2;
         i += 1;
     }
-    used
+    Ok(used)
 }
 
 // The head of the area with a number, and the length and the sum of the part that holds its rows.
-fn look_up(map: &[u8], number: u16) {
-    print(b"area", number as u64);
+fn look_up(rt: &impl Print, map: &[u8], number: u16) -> io::Result<()> {
+    print(rt, "area", number as u64)?;
     match map::look_up(map, number) {
-        Found::Refused(f) => print(b" refused", f.number() as u64),
-        Found::Lacking => line(b" lacking"),
+        Found::Refused(f) => print(rt, " refused", f.number() as u64)?,
+        Found::Lacking => line(rt, " lacking")?,
         Found::At(a) => {
-            print(b" weight", a.weight as u64);
-            print(b" rows", a.rows as u64);
-            print(b" columns", a.columns as u64);
+            print(rt, " weight", a.weight as u64)?;
+            print(rt, " rows", a.rows as u64)?;
+            print(rt, " columns", a.columns as u64)?;
             let p = a.population;
-            print(b" people", p.0);
+            print(rt, " people", p.0)?;
         }
     }
     let part = map::rows_of(map, number);
-    print(b" bytes", part.len() as u64);
-    print(b" sum", sum(part) as u64);
+    print(rt, " bytes", part.len() as u64)?;
+    print(rt, " sum", sum(part) as u64)
 }
 
 // The sum of the bytes, modulo 2^32.
@@ -164,24 +167,24 @@ fn sum(s: &[u8]) -> u32 {
 
 // A grant in so many bytes: the call sign; 0 and an area's number, or 1 and the four edges of a box. Of 28 bytes the last four are
 // the width; of 24 there is none.
-fn grant_case(s: &[u8], used: usize, register: Register) -> Played
+fn grant_case(rt: &impl Print, s: &[u8], used: usize, register: Register) -> io::Result<Played>
     requires { (0 < length s.now) × (24 ≤ used) }
-    ensures { (0 < result.used) × (result.used ≤ length s.now) }
+    ensures { IfOk result (λ done. (0 < done.used) × (done.used ≤ length s.now)) }
 {
     if s.len() < used {
-        return Played {
+        return Ok(Played {
             used: s.len(),
             register,
-        };
+        });
     }
     let granted = register.grant(licence_at(s, used));
     let answer = granted.answer;
-    print(b"grant", answer.number() as u64);
+    print(rt, "grant", answer.number() as u64)?;
     let next = granted.next;
-    Played {
+    Ok(Played {
         used,
         register: next,
-    }
+    })
 }
 
 fn licence_at(s: &[u8], used: usize) -> Licence
@@ -218,194 +221,214 @@ fn ground_at(s: &[u8]) -> Ground
 }
 
 // A cancellation: the call sign.
-fn cancel_case(s: &[u8], register: Register) -> Played
+fn cancel_case(rt: &impl Print, s: &[u8], register: Register) -> io::Result<Played>
     requires { 0 < length s.now }
-    ensures { (0 < result.used) × (result.used ≤ length s.now) }
+    ensures { IfOk result (λ done. (0 < done.used) × (done.used ≤ length s.now)) }
 {
     if s.len() < 5 {
-        return Played {
+        return Ok(Played {
             used: s.len(),
             register,
-        };
+        });
     }
     let cancelled = register.cancel(u32_at(s, 1));
     let answer = cancelled.answer;
-    print(b"cancel", answer.number() as u64);
+    print(rt, "cancel", answer.number() as u64)?;
     let next = cancelled.next;
-    Played {
+    Ok(Played {
         used: 5,
         register: next,
-    }
+    })
 }
 
 // Proposals: a map's length and bytes, how many numbers and draws there are, the numbers whose coverage and blocks are asked for,
 // and the draws.
-fn proposal_case(s: &[u8], register: Register) -> usize
-    ensures { result ≤ length s.now }
+fn proposal_case(rt: &impl Print, s: &[u8], register: Register) -> io::Result<usize>
+    ensures { IfOk result (λ used. used ≤ length s.now) }
 {
     let end = map_end(s);
     if end < 4 {
-        return s.len();
+        return Ok(s.len());
     }
     let map = &s[4..end];
     let rest = &s[end..];
     if rest.len() < 2 {
-        return s.len();
+        return Ok(s.len());
     }
-    let numbers = coverages(&rest[2..], map, register, rest[0]);
+    let numbers = coverages(rt, &rest[2..], map, register, rest[0])?;
     let at = end + 2 + numbers;
-    at + proposals(&s[at..], map, register, rest[1])
+    Ok(at + proposals(rt, &s[at..], map, register, rest[1])?)
 }
 
 // The coverage and the blocks of the areas with some numbers.
-fn coverages(s: &[u8], map: &[u8], register: Register, count: u8) -> usize
-    ensures { result ≤ length s.now }
+fn coverages(
+    rt: &impl Print,
+    s: &[u8],
+    map: &[u8],
+    register: Register,
+    count: u8,
+) -> io::Result<usize>
+    ensures { IfOk result (λ used. used ≤ length s.now) }
 {
     let mut used: usize = 0;
     let mut i: u8 = 0;
     while i < count {
         if s.len() - used < 2 {
-            return s.len();
+            return Ok(s.len());
         }
-        covered(map, register, u16_at(s, used));
+        covered(rt, map, register, u16_at(s, used))?;
         used += 2;
         i += 1;
     }
-    used
+    Ok(used)
 }
 
-fn covered(map: &[u8], register: Register, number: u16) {
-    print(b"coverage", number as u64);
+fn covered(rt: &impl Print, map: &[u8], register: Register, number: u16) -> io::Result<()> {
+    print(rt, "coverage", number as u64)?;
     match coverage::coverage(map, register, number) {
-        CoverageAnswer::Refused(f) => print(b" refused", f.number() as u64),
+        CoverageAnswer::Refused(f) => print(rt, " refused", f.number() as u64)?,
         CoverageAnswer::Covered(sums) => {
             let mhz_pops = sums.mhz_pops;
-            print(b" mhz-pops", mhz_pops.0);
+            print(rt, " mhz-pops", mhz_pops.0)?;
             let cells = sums.cells;
-            print(b" cells", cells.0);
+            print(rt, " cells", cells.0)?;
         }
     }
     match coverage::blocks(map, register, number) {
-        BlocksAnswer::Refused(f) => print(b" refused", f.number() as u64),
+        BlocksAnswer::Refused(f) => print(rt, " refused", f.number() as u64)?,
         BlocksAnswer::Held(b) => {
-            print(b" whole", b.whole);
+            print(rt, " whole", b.whole)?;
             let value = b.value;
-            print(b" value", value.0);
+            print(rt, " value", value.0)?;
             let size = b.size;
-            print(b" size", size.0);
+            print(rt, " size", size.0)?;
         }
     }
+    Ok(())
 }
 
 // The proposals with some draws.
-fn proposals(s: &[u8], map: &[u8], register: Register, count: u8) -> usize
-    ensures { result ≤ length s.now }
+fn proposals(
+    rt: &impl Print,
+    s: &[u8],
+    map: &[u8],
+    register: Register,
+    count: u8,
+) -> io::Result<usize>
+    ensures { IfOk result (λ used. used ≤ length s.now) }
 {
     let mut used: usize = 0;
     let mut i: u8 = 0;
     while i < count {
         if s.len() - used < 4 {
-            return s.len();
+            return Ok(s.len());
         }
         let draw = u32_at(s, used);
-        print(b"propose", draw as u64);
-        proposed(proposal::propose(map, register, draw));
+        print(rt, "propose", draw as u64)?;
+        proposed(rt, proposal::propose(map, register, draw))?;
         used += 4;
         i += 1;
     }
-    used
+    Ok(used)
 }
 
-fn proposed(p: Proposal) {
+fn proposed(rt: &impl Print, p: Proposal) -> io::Result<()> {
     let outcome = p.outcome;
     let refused = outcome.refusal();
     if refused != 0 {
-        print(b" refused", refused as u64);
-        return;
+        return print(rt, " refused", refused as u64);
     }
-    print(b" kind", outcome.kind() as u64);
+    print(rt, " kind", outcome.kind() as u64)?;
     let target = p.target;
-    print(b" target", target.0);
+    print(rt, " target", target.0)?;
     let white = p.white_space;
-    print(b" white", white.0);
-    print(b" tied", p.tied as u64);
+    print(rt, " white", white.0)?;
+    print(rt, " tied", p.tied as u64)?;
     let areas = p.areas;
     let count = p.count;
-    given(areas, count);
+    given(rt, areas, count)
 }
 
 // What the first areas are given.
-fn given(areas: [AreaAnswer; 32], count: usize) {
+fn given(rt: &impl Print, areas: [AreaAnswer; 32], count: usize) -> io::Result<()> {
     let mut i: usize = 0;
     while i < 32 {
         if i < count {
             let a = areas[i];
-            print(b" area", a.number as u64);
-            print(b"  blocks", a.blocks);
+            print(rt, " area", a.number as u64)?;
+            print(rt, "  blocks", a.blocks)?;
             let cells = a.cells;
-            print(b"  cells", cells.0);
+            print(rt, "  cells", cells.0)?;
             let gets = a.gets;
             match gets {
-                Gets::Nothing => line(b"  nothing"),
-                Gets::Whole => line(b"  whole"),
-                Gets::RoundedUp => line(b"  rounded up"),
-                Gets::Share(amount) => print(b"  share", amount.0),
+                Gets::Nothing => line(rt, "  nothing")?,
+                Gets::Whole => line(rt, "  whole")?,
+                Gets::RoundedUp => line(rt, "  rounded up")?,
+                Gets::Share(amount) => print(rt, "  share", amount.0)?,
             }
         }
         i += 1;
     }
+    Ok(())
 }
 
 // Footprints: a map's length and bytes, and the calls.
-fn footprint_case(s: &[u8], register: Register) -> usize
-    ensures { result ≤ length s.now }
+fn footprint_case(rt: &impl Print, s: &[u8], register: Register) -> io::Result<usize>
+    ensures { IfOk result (λ used. used ≤ length s.now) }
 {
     let end = map_end(s);
     if end < 4 {
-        return s.len();
+        return Ok(s.len());
     }
     let map = &s[4..end];
-    end + footprints(&s[end..], map, register)
+    Ok(end + footprints(rt, &s[end..], map, register)?)
 }
 
 // A count of calls, and the calls.
-fn footprints(s: &[u8], map: &[u8], register: Register) -> usize
-    ensures { result ≤ length s.now }
+fn footprints(rt: &impl Print, s: &[u8], map: &[u8], register: Register) -> io::Result<usize>
+    ensures { IfOk result (λ used. used ≤ length s.now) }
 {
     if s.len() == 0 {
-        return 0;
+        return Ok(0);
     }
     let count = s[0];
     let mut used: usize = 1;
     let mut i: u8 = 0;
     while i < count {
         if s.len() - used < 10 {
-            return s.len();
+            return Ok(s.len());
         }
-        if !outlined(&s[used..], map, register) {
-            return s.len();
+        if !outlined(rt, &s[used..], map, register)? {
+            return Ok(s.len());
         }
         used += 10;
         i += 1;
     }
-    used
+    Ok(used)
 }
 
 // One call: the draw, the bytes of the mask, the entries of the table, and the entry from which none may change. False where it
 // asks for more bytes or entries than there are to lend.
-fn outlined(s: &[u8], map: &[u8], register: Register) -> bool {
+fn outlined(rt: &impl Print, s: &[u8], map: &[u8], register: Register) -> io::Result<bool> {
     let bytes = u16_at(s, 4) as usize;
     let entries = u16_at(s, 6) as usize;
     let mut mask = mask_to_lend();
     let mut table = table_to_lend();
     if bytes <= 64 {
         if entries <= 4096 {
-            outline(s, map, register, &mut mask[..bytes], &mut table[..entries]);
-            return true;
+            outline(
+                rt,
+                s,
+                map,
+                register,
+                &mut mask[..bytes],
+                &mut table[..entries],
+            )?;
+            return Ok(true);
         }
     }
-    line(b" too long");
-    false
+    line(rt, " too long")?;
+    Ok(false)
 }
 
 // 64 bytes to lend: 9 is no byte of a footprint, so a 9 that is left was not written.
@@ -423,49 +446,48 @@ fn table_to_lend() -> [u16; 4096]
 }
 
 // The answer of a call, the mask that it leaves, and how much of the table it leaves as it was.
-fn outline(s: &[u8], map: &[u8], register: Register, mask: &mut [u8], table: &mut [u16]) {
+fn outline(
+    rt: &impl Print,
+    s: &[u8],
+    map: &[u8],
+    register: Register,
+    mask: &mut [u8],
+    table: &mut [u16],
+) -> io::Result<()> {
     let draw = u32_at(s, 0);
-    print(b"footprint", draw as u64);
-    answered(footprint::footprint(map, register, draw, mask, table));
-    show_mask(mask);
+    print(rt, "footprint", draw as u64)?;
+    answered(rt, footprint::footprint(map, register, draw, mask, table))?;
+    show_mask(rt, mask)?;
     let from = u16_at(s, 8) as usize;
-    print(b" unchanged", unchanged(table, from));
+    print(rt, " unchanged", unchanged(table, from))
 }
 
-fn answered(answer: FootprintAnswer) {
+fn answered(rt: &impl Print, answer: FootprintAnswer) -> io::Result<()> {
     let refused = answer.refusal();
     match answer {
-        FootprintAnswer::TableShort(needed) => print(b" needed", needed as u64),
-        FootprintAnswer::Made(number) => print(b" area", number as u64),
-        _ => print(b" refused", refused as u64),
+        FootprintAnswer::TableShort(needed) => print(rt, " needed", needed as u64),
+        FootprintAnswer::Made(number) => print(rt, " area", number as u64),
+        _ => print(rt, " refused", refused as u64),
     }
 }
 
 // A character for each byte of a mask.
-fn show_mask(mask: &[u8]) {
-    io::write_all(1, b" mask ");
+fn show_mask(rt: &impl Print, mask: &[u8]) -> io::Result<()> {
+    print!(rt; " mask ")?;
     let mut i: usize = 0;
     while i < mask.len() {
-        show_byte(mask[i]);
+        show_byte(rt, mask[i])?;
         i += 1;
     }
-    io::write_all(1, b"\n");
+    println!(rt)
 }
 
-fn show_byte(b: u8) {
+fn show_byte(rt: &impl Print, b: u8) -> io::Result<()> {
     match b {
-        0 => {
-            io::write_all(1, b"0");
-        }
-        1 => {
-            io::write_all(1, b"1");
-        }
-        9 => {
-            io::write_all(1, b".");
-        }
-        _ => {
-            io::write_all(1, b"?");
-        }
+        0 => print!(rt; "0"),
+        1 => print!(rt; "1"),
+        9 => print!(rt; "."),
+        _ => print!(rt; "?"),
     }
 }
 
@@ -483,32 +505,32 @@ fn unchanged(table: &[u16], from: usize) -> u64 {
 }
 
 // A list of calls: a map's length and bytes, and the list. The register that it leaves takes the place of the one before.
-fn list_case(s: &[u8], register: Register) -> Played
+fn list_case(rt: &impl Print, s: &[u8], register: Register) -> io::Result<Played>
     requires { 0 < length s.now }
-    ensures { (0 < result.used) × (result.used ≤ length s.now) }
+    ensures { IfOk result (λ done. (0 < done.used) × (done.used ≤ length s.now)) }
 {
     let rest = &s[1..];
     let end = map_end(rest);
     if end < 4 {
-        return Played {
+        return Ok(Played {
             used: s.len(),
             register,
-        };
+        });
     }
     let map = &rest[4..end];
-    let done = listed(&rest[end..], map, register);
+    let done = listed(rt, &rest[end..], map, register)?;
     let used = 1 + end + done.used;
     let next = done.register;
-    Played {
+    Ok(Played {
         used,
         register: next,
-    }
+    })
 }
 
 // The bytes of the mask, the entries of the table, the entry from which none may change, the number of words, and the words. The block
 // ends, and nothing is played, where words are missing or where it asks for more than there is to lend.
-fn listed(s: &[u8], map: &[u8], register: Register) -> Played
-    ensures { result.used ≤ length s.now }
+fn listed(rt: &impl Print, s: &[u8], map: &[u8], register: Register) -> io::Result<Played>
+    ensures { IfOk result (λ done. done.used ≤ length s.now) }
 {
     let bytes = u16_at(s, 0) as usize;
     let entries = u16_at(s, 2) as usize;
@@ -523,25 +545,26 @@ fn listed(s: &[u8], map: &[u8], register: Register) -> Played
             if entries <= 4096 {
                 if count <= 1024 {
                     let next = play_list(
+                        rt,
                         map,
                         &words[..count],
                         &mut mask[..bytes],
                         &mut table[..entries],
                         from,
-                    );
-                    return Played {
+                    )?;
+                    return Ok(Played {
                         used: end,
                         register: next,
-                    };
+                    });
                 }
             }
         }
-        line(b" too long");
+        line(rt, " too long")?;
     }
-    Played {
+    Ok(Played {
         used: s.len(),
         register,
-    }
+    })
 }
 
 // The words of a list; those past its end are 0, and are not lent.
@@ -560,19 +583,20 @@ fn words_in(s: &[u8]) -> [u32; 1024]
 // How many calls of a list were made and refused, the mask that they leave, and how much of the table they leave as it was. Gives the
 // register after the last of them.
 fn play_list(
+    rt: &impl Print,
     map: &[u8],
     words: &[u32],
     mask: &mut [u8],
     table: &mut [u16],
     from: usize,
-) -> Register {
-    print(b"list", words.len() as u64);
+) -> io::Result<Register> {
+    print(rt, "list", words.len() as u64)?;
     let played = ledger::play(map, words, mask, table);
-    print(b" calls", played.calls as u64);
-    print(b" refused", played.refused as u64);
-    show_mask(mask);
-    print(b" unchanged", unchanged(table, from));
-    played.register
+    print(rt, " calls", played.calls as u64)?;
+    print(rt, " refused", played.refused as u64)?;
+    show_mask(rt, mask)?;
+    print(rt, " unchanged", unchanged(table, from))?;
+    Ok(played.register)
 }
 
 // The u16 at a position, 0 past the end.
@@ -591,14 +615,10 @@ fn u32_at(s: &[u8], at: usize) -> u32 {
     }
 }
 
-fn line(text: &[u8]) {
-    io::write_all(1, text);
-    io::write_all(1, b"\n");
+fn line(rt: &impl Print, text: &str) -> io::Result<()> {
+    println!(rt; "{text}")
 }
 
-fn print(text: &[u8], n: u64) {
-    io::write_all(1, text);
-    io::write_all(1, b" ");
-    io::print_decimal(1, n);
-    io::write_all(1, b"\n");
+fn print(rt: &impl Print, text: &str, n: u64) -> io::Result<()> {
+    println!(rt; "{text} {n}")
 }

@@ -3,13 +3,15 @@
 // `host/run cases --write` writes the cases and, by an implementation of its own, the lines that must come out.
 #![tactic(auto)]
 
-ghost use Rattle.std.specs.Prelude.{◌≤◌, ◌<◌, length};
+ghost use Rattle.std.specs.Prelude.{◌≤◌, ◌<◌, IfOk, length};
 
 use map::fields;
 use map::fields::Field;
 use proposal::{AreaAnswer, Gets, Proposal};
 use records::{Kept, Record};
 use register::{GeoBox, Ground, Licence, Register};
+use std::io;
+use std::io::Read;
 use units::{Cells, MhzPops, People};
 
 // What a call is made with, and what it leaves.
@@ -26,42 +28,43 @@ struct Played {
     register: Register,
 }
 
-fn main() {
-    let mut cases = io::large_buffer();
-    let n = io::read_full(0, &mut cases);
-    play_all(&cases[..n]);
+fn main(rt: HostRuntime) -> io::Result<()> {
+    let mut cases = Vec::new(rt.alloc());
+    rt.reader().take(65536).read_to_end(&mut cases)?;
+    play_all(&rt, &cases)
 }
 
-fn play_all(s: &[u8]) {
+fn play_all(rt: &impl Print, s: &[u8]) -> io::Result<()> {
     let mut at: usize = 0;
     let mut register = Register::empty();
     while at < s.len() {
-        let done = play(&s[at..], register);
+        let done = play(rt, &s[at..], register)?;
         at += done.used;
         let next = done.register;
         register = next;
     }
+    Ok(())
 }
 
 // One case: R, a map's length and bytes, a count of items, and the items. Anything else ends the block.
-fn play(s: &[u8], register: Register) -> Played
+fn play(rt: &impl Print, s: &[u8], register: Register) -> io::Result<Played>
     requires { 0 < length s.now }
-    ensures { (0 < result.used) × (result.used ≤ length s.now) }
+    ensures { IfOk result (λ done. (0 < done.used) × (done.used ≤ length s.now)) }
 {
     let end = map_end(s);
     if end < 5 {
-        return Played {
+        return Ok(Played {
             used: s.len(),
             register,
-        };
+        });
     }
     let map = &s[5..end];
-    let done = play_items(&s[end..], map, loaded(map, register));
+    let done = play_items(rt, &s[end..], map, loaded(rt, map, register)?)?;
     let next = done.register;
-    Played {
+    Ok(Played {
         used: end + done.used,
         register: next,
-    }
+    })
 }
 
 // Where the map of a case ends and the count stands; the map's bytes start at 5. 0 where there is no R or they aren't there whole.
@@ -80,18 +83,18 @@ fn map_end(s: &[u8]) -> usize
 }
 
 // The register, and the record of a map.
-fn loaded(map: &[u8], register: Register) -> Both {
+fn loaded(rt: &impl Print, map: &[u8], register: Register) -> io::Result<Both> {
     let load = Record::load(map);
     let checked = load.checked;
-    print(b"record", checked.number() as u64);
+    print(rt, "record", checked.number() as u64)?;
     let kept = load.kept;
-    Both { register, kept }
+    Ok(Both { register, kept })
 }
 
 // A count of items, and the items; then the record that they leave. An item that isn't there whole ends the block.
-fn play_items(s: &[u8], map: &[u8], mut both: Both) -> Played
+fn play_items(rt: &impl Print, s: &[u8], map: &[u8], mut both: Both) -> io::Result<Played>
     requires { 0 < length s.now }
-    ensures { result.used ≤ length s.now }
+    ensures { IfOk result (λ done. done.used ≤ length s.now) }
 {
     let count = byte_at(s, 0);
     let mut used: usize = 1;
@@ -101,19 +104,19 @@ fn play_items(s: &[u8], map: &[u8], mut both: Both) -> Played
         let size = item_size(item);
         if size == 0 {
             let register = both.register;
-            return Played {
+            return Ok(Played {
                 used: s.len(),
                 register,
-            };
+            });
         }
-        both = play_item(item, map, both);
+        both = play_item(rt, item, map, both)?;
         used += size;
         i += 1;
     }
     let kept = both.kept;
-    show(kept);
+    show(rt, kept)?;
     let register = both.register;
-    Played { used, register }
+    Ok(Played { used, register })
 }
 
 // How many bytes the item that stands first takes, by its letter. 0 where it isn't there whole.
@@ -137,29 +140,29 @@ fn item_size(s: &[u8]) -> usize
 
 // One item, by its letter: G a grant without a width, W a grant with one, C a cancellation, P a proposal, A an entry of the record,
 // N the record's count, E an empty register.
-fn play_item(s: &[u8], map: &[u8], both: Both) -> Both {
+fn play_item(rt: &impl Print, s: &[u8], map: &[u8], both: Both) -> io::Result<Both> {
     match byte_at(s, 0) {
-        b'G' | b'W' => grant(s, map, both),
-        b'C' => cancel(s, map, both),
-        b'P' => propose(s, both),
-        b'A' => with_entry(s, both),
-        b'N' => with_count(s, both),
-        _ => emptied(both),
+        b'G' | b'W' => grant(rt, s, map, both),
+        b'C' => cancel(rt, s, map, both),
+        b'P' => propose(rt, s, both),
+        b'A' => Ok(with_entry(s, both)),
+        b'N' => Ok(with_count(s, both)),
+        _ => emptied(rt, both),
     }
 }
 
-fn grant(s: &[u8], map: &[u8], both: Both) -> Both {
+fn grant(rt: &impl Print, s: &[u8], map: &[u8], both: Both) -> io::Result<Both> {
     let register = both.register;
     let kept = both.kept;
     let granted = kept.grant(map, register, licence_at(s));
     let answer = granted.answer;
-    print(b"grant", answer.number() as u64);
+    print(rt, "grant", answer.number() as u64)?;
     let next = granted.next;
     let after = granted.kept;
-    Both {
+    Ok(Both {
         register: next,
         kept: after,
-    }
+    })
 }
 
 // The call sign, the ground, and after the letter W the width.
@@ -193,18 +196,18 @@ fn ground_at(s: &[u8]) -> Ground {
     })
 }
 
-fn cancel(s: &[u8], map: &[u8], both: Both) -> Both {
+fn cancel(rt: &impl Print, s: &[u8], map: &[u8], both: Both) -> io::Result<Both> {
     let register = both.register;
     let kept = both.kept;
     let cancelled = kept.cancel(map, register, u32_at(s, 1));
     let answer = cancelled.answer;
-    print(b"cancel", answer.number() as u64);
+    print(rt, "cancel", answer.number() as u64)?;
     let next = cancelled.next;
     let after = cancelled.kept;
-    Both {
+    Ok(Both {
         register: next,
         kept: after,
-    }
+    })
 }
 
 // A place, and the entry that stands there from here on. A place of 32 or more changes nothing.
@@ -235,93 +238,94 @@ fn with_count(s: &[u8], both: Both) -> Both {
     Both { register, kept }
 }
 
-fn emptied(both: Both) -> Both {
-    line(b"empty");
+fn emptied(rt: &impl Print, both: Both) -> io::Result<Both> {
+    line(rt, "empty")?;
     let kept = both.kept;
-    Both {
+    Ok(Both {
         register: Register::empty(),
         kept,
-    }
+    })
 }
 
-fn propose(s: &[u8], both: Both) -> Both {
+fn propose(rt: &impl Print, s: &[u8], both: Both) -> io::Result<Both> {
     let draw = u32_at(s, 1);
-    print(b"propose", draw as u64);
+    print(rt, "propose", draw as u64)?;
     let kept = both.kept;
-    proposed(kept.propose(draw));
-    both
+    proposed(rt, kept.propose(draw))?;
+    Ok(both)
 }
 
-fn proposed(p: Proposal) {
+fn proposed(rt: &impl Print, p: Proposal) -> io::Result<()> {
     let outcome = p.outcome;
     let refused = outcome.refusal();
     if refused != 0 {
-        print(b" refused", refused as u64);
-        return;
+        return print(rt, " refused", refused as u64);
     }
-    print(b" kind", outcome.kind() as u64);
+    print(rt, " kind", outcome.kind() as u64)?;
     let target = p.target;
-    print(b" target", target.0);
+    print(rt, " target", target.0)?;
     let white = p.white_space;
-    print(b" white", white.0);
-    print(b" tied", p.tied as u64);
+    print(rt, " white", white.0)?;
+    print(rt, " tied", p.tied as u64)?;
     let areas = p.areas;
     let count = p.count;
-    given(areas, count);
+    given(rt, areas, count)
 }
 
 // What the first areas are given.
-fn given(areas: [AreaAnswer; 32], count: usize) {
+fn given(rt: &impl Print, areas: [AreaAnswer; 32], count: usize) -> io::Result<()> {
     let mut i: usize = 0;
     while i < 32 {
         if i < count {
             let a = areas[i];
-            given_to(a);
+            given_to(rt, a)?;
         }
         i += 1;
     }
+    Ok(())
 }
 
-fn given_to(a: AreaAnswer) {
-    print(b" area", a.number as u64);
-    print(b"  blocks", a.blocks);
+fn given_to(rt: &impl Print, a: AreaAnswer) -> io::Result<()> {
+    print(rt, " area", a.number as u64)?;
+    print(rt, "  blocks", a.blocks)?;
     let cells = a.cells;
-    print(b"  cells", cells.0);
+    print(rt, "  cells", cells.0)?;
     let gets = a.gets;
     match gets {
-        Gets::Nothing => line(b"  nothing"),
-        Gets::Whole => line(b"  whole"),
-        Gets::RoundedUp => line(b"  rounded up"),
-        Gets::Share(amount) => print(b"  share", amount.0),
+        Gets::Nothing => line(rt, "  nothing"),
+        Gets::Whole => line(rt, "  whole"),
+        Gets::RoundedUp => line(rt, "  rounded up"),
+        Gets::Share(amount) => print(rt, "  share", amount.0),
     }
 }
 
 // The record's count, and its entries that aren't all 0.
-fn show(kept: Record) {
-    print(b"kept", kept.count);
+fn show(rt: &impl Print, kept: Record) -> io::Result<()> {
+    print(rt, "kept", kept.count)?;
     let areas = kept.areas;
     let mut i: usize = 0;
     while i < 32 {
         let k = areas[i];
-        show_entry(i, k);
+        show_entry(rt, i, k)?;
         i += 1;
     }
+    Ok(())
 }
 
-fn show_entry(place: usize, k: Kept) {
+fn show_entry(rt: &impl Print, place: usize, k: Kept) -> io::Result<()> {
     let people = k.population;
     let mhz_pops = k.mhz_pops;
     let cells = k.cells;
     let any = (k.number as u64) | (k.weight as u64) | people.0 | mhz_pops.0 | cells.0;
     if any == 0 {
-        return;
+        return Ok(());
     }
-    print(b" entry", place as u64);
-    print(b"  number", k.number as u64);
-    print(b"  weight", k.weight as u64);
-    print(b"  population", people.0);
-    print(b"  mhz-pops", mhz_pops.0);
-    print(b"  cells", cells.0);
+    print(rt, " entry", place as u64)?;
+    print(rt, "  number", k.number as u64)?;
+    print(rt, "  weight", k.weight as u64)?;
+    print(rt, "  population", people.0)?;
+    print(rt, "  mhz-pops", mhz_pops.0)?;
+    print(rt, "  cells", cells.0)
 }
 
 // The byte at a position, 0 past the end.
@@ -344,14 +348,10 @@ fn u64_at(s: &[u8], at: usize) -> u64
     u32_at(s, at) as u64 + 4294967296 * (u32_at(s, at + 4) as u64)
 }
 
-fn line(text: &[u8]) {
-    io::write_all(1, text);
-    io::write_all(1, b"\n");
+fn line(rt: &impl Print, text: &str) -> io::Result<()> {
+    println!(rt; "{text}")
 }
 
-fn print(text: &[u8], n: u64) {
-    io::write_all(1, text);
-    io::write_all(1, b" ");
-    io::print_decimal(1, n);
-    io::write_all(1, b"\n");
+fn print(rt: &impl Print, text: &str, n: u64) -> io::Result<()> {
+    println!(rt; "{text} {n}")
 }

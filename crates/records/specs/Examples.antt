@@ -4,9 +4,9 @@ use Rattle.std.specs.Prelude.{ℕ, ◌-◌, ◌≡◌, refl, Bool, true, false, 
 use Rattle.units.specs.Sums.{largest, capped}
 use Rattle.map.specs.Format.{Place, cell, Area}
 use Rattle.map.specs.Answers.{locate}
-use Rattle.register.specs.declared.Ground.{Ground}
 use Rattle.register.specs.declared.Ground.TheVariants as ground
 use Rattle.register.specs.declared.Licence.{Licence}
+use Rattle.register.specs.Licences.{full_licence}
 use Rattle.records.specs.declared.Kept.{Kept}
 use Rattle.records.specs.declared.Record.{Record}
 use Rattle.records.specs.Record.{no_kept, loaded, added, subtracted, changed, area_fault, areas_fault, record_fault}
@@ -38,14 +38,10 @@ areas = seven ∷ nine ∷ []
 
 -- a box over columns 2 and 3 of area 7, and area 9 at 20 MHz
 abbrev in_seven : Licence
-in_seven = record {
-  call_sign = 1;
-  ground = ground.Box (record { south = pos 0; north = pos 1; west = pos 2; east = pos 4 });
-  width = 50;
-}
+in_seven = full_licence 1 (ground.Box (record { south = pos 0; north = pos 1; west = pos 2; east = pos 4 }))
 
 abbrev all_nine : Licence
-all_nine = let ground : Ground = ground.Area 9 in record { call_sign = 2; ground = ground; width = 20 }
+all_nine = record (full_licence 2 (ground.Area 9)) { width = 20 }
 
 -- ---- grants and cancellations
 

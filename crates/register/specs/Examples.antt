@@ -1,6 +1,5 @@
 -- The rules of a grant and of a cancellation, evaluated on a table of cases. Assumes nothing.
 use Rattle.std.specs.Prelude.{ℕ, zero, suc, ◌≡◌, refl, Bool, true, ◌&&◌, List, [], ◌∷◌, eqb, ℤ, pos, neg_ℤ}
-use Rattle.register.specs.declared.Ground.{Ground}
 use Rattle.register.specs.declared.Ground.TheVariants.{Area, Box}
 use Rattle.register.specs.declared.Licence.{Licence}
 use Rattle.register.specs.Licences.{
@@ -19,7 +18,7 @@ of_area s n = full_licence s (Area n)
 
 -- a licence for area 1 by its call sign and its width
 abbrev pub of_width : ℕ → ℕ → Licence
-of_width s w = let ground : Ground = Area 1 in record { call_sign = s; ground = ground; width = w }
+of_width s w = record (of_area s 1) { width = w }
 
 -- a licence of 50 MHz and call sign 1 by the edges of its box: south, north, west, east
 abbrev pub of_box : ℤ → ℤ → ℤ → ℤ → Licence

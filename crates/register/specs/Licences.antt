@@ -33,7 +33,7 @@ well_formed l = not (eqb l.call_sign 0) && ground_formed l.ground && width_forme
 abbrev pub full_width : ℕ
 full_width = 50
 
-abbrev pub full_licence : ℕ → (ground : Ground) → Licence
+abbrev pub full_licence : (sign : ℕ) → (ground : Ground) → Licence
 full_licence s g = record { call_sign = s; ground = g; width = full_width }
 
 -- ---- how a licence is laid out at a place of the register

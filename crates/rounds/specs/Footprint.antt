@@ -1,5 +1,6 @@
 -- Document 01, "The footprint", from the partial area by place, the set F and the share. Everything here computes. Assumes nothing.
-use Rattle.std.specs.Prelude.{ℕ, zero, suc, ◌+◌, ◌-◌, ◌*◌, ◌/◌, ◌≡◌, Bool, true, false, cond, not, ◌&&◌, ◌||◌, List, map, leb, ltb, eqb, length, replicate}
+use Rattle.std.specs.Prelude.{ℕ, zero, suc, ◌+◌, ◌-◌, ◌*◌, ◌/◌, ◌≡◌, Bool, true, false, cond, not, ◌&&◌, ◌||◌}
+use Rattle.std.specs.Prelude.{List, map, leb, ltb, eqb, length, replicate}
 use Rattle.lists.specs.Sums.{sum_below}
 use Rattle.lists.specs.Filters.{filter, up_to, among}
 use Rattle.subset.specs.Sets.{sets, taken_of}

@@ -1,5 +1,5 @@
 //! Turns the C header into Rust declarations, so that each number, each refusal's words and each struct's layout stands in one
-//! place, and links the engine's archive, which `rt staticlib abi` writes to target/staticlib.
+//! place, and links the engine's archive, which host/build writes to target/staticlib.
 
 mod header;
 mod rust;
@@ -21,7 +21,7 @@ fn main() -> Result<(), Box<dyn Error>> {
     Ok(())
 }
 
-/// The folder that the variable names, else the one that `rt staticlib abi` writes to.
+/// The folder that the variable names, else the one that host/build writes to.
 fn archive_folder(here: &Path) -> Result<PathBuf, String> {
     println!("cargo::rerun-if-env-changed={FOLDER}");
     match env::var_os(FOLDER).map(PathBuf::from) {

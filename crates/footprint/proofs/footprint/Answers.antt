@@ -8,7 +8,6 @@ use Rattle.footprint.specs.declared.FootprintAnswer.TheVariants as answered
 use Rattle.footprint.specs.Footprint.{Footprint}
 use Rattle.footprint.specs.Promises.{FootprintDone}
 use Rattle.footprint.proofs.WayLaws.{untouched, readable, ComesOf, map-refused, map-accepted}
-use borrow.Author.Rules.{rules}
 use Rattle.footprint.proofs.footprint.Goals as goal
 use Rattle.footprint.proofs.footprint.Goals.{After-partial_area}
 

@@ -1,6 +1,6 @@
 -- `footprint::outline`: the cells laid out by place and the rounds over them give the footprint of the area. Assumes nothing.
 use Prim.Native.Nat.{ℕ, ◌*◌, ◌<◌}
-use mathlib.Core.Path.{◌≡◌, refl, sym, subst}
+use mathlib.Core.Path.{◌≡◌, refl, subst}
 use native.Mathlib.Omega.{arith}
 use native.Mathlib.Nat.{mul-le-mul}
 use lib.ListN.{length, take, replicate, length-replicate}
@@ -14,14 +14,8 @@ use Rattle.rounds.specs.declared.Answer.{Answer}
 use Rattle.footprint.specs.Footprint.{part_area, covered_cells, footprint_of}
 use Rattle.footprint.specs.Code.{Buffers, Comes, Fits, told_by}
 use Rattle.footprint.proofs.OutlineLaws.{Outlined, outlined-by, too_short}
-use borrow.Author.Rules.{rules}
 use Rattle.footprint.proofs.outline.Goals as goal
 use Rattle.footprint.proofs.outline.Goals.{After-make}
-
-pub overflow_mul-a : goal.overflow_mul-a
-overflow_mul-a c =
-    let p = c.requires in
-    record { fits = omega (arith, mul-le-mul p.rows p.columns) }
 
 pub returns-then-mask-a : goal.returns-then-mask-a
 returns-then-mask-a c =
@@ -34,9 +28,6 @@ returns-then-mask-a c =
     } in
     too_short (in_force c.args.register.places) c.args.share.0 a b
     (subst (λ (x : handed.Area). length c.args.mask.now < x.rows * x.columns) e c.if-mask-a.true) refl refl)
-
-pub slice_bounds-lay_out-end : goal.slice_bounds-lay_out-end
-slice_bounds-lay_out-end c = sym (edges-size c.boxes-boxes.ensures)
 
 pub lay_out-requires : goal.lay_out-requires
 lay_out-requires c =

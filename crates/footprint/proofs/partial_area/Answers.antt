@@ -1,22 +1,10 @@
 -- `footprint::partial_area`: by the proposal's outcome, and for one part the area at the place of its share. Assumes nothing.
-use Prim.Native.Nat.{◌<◌}
-use mathlib.Core.Path.{sym, ap, subst, ◌∙◌}
+use mathlib.Core.Path.{sym, ap, ◌∙◌}
 use mathlib.Core.List.{map}
-use native.Mathlib.Omega.{arith}
 use Rattle.proposal.specs.declared.Outcome.{Outcome}
 use Rattle.proposal.specs.Promises.{area_means}
-use Rattle.footprint.specs.declared.PartialArea.{PartialArea}
-use Rattle.footprint.specs.Code.{shared_from, shared_means, place_within, part_at, part_by}
-use borrow.Author.Rules.{rules}
+use Rattle.footprint.specs.Code.{shared_from, shared_means, part_at, part_by}
 use Rattle.footprint.proofs.partial_area.Goals as goal
-use Rattle.footprint.proofs.partial_area.Goals.{In-At}
-
--- the place is one of the 32
-inside : (c : In-At) → c.in-At.i < 32
-inside c = subst (place_within 32) c.in-At.is c.share_in.ensures.1
-
-pub bounds-stands-i : goal.bounds-stands-i
-bounds-stands-i c = inside (goal.at.bounds-stands-i c).In-At
 
 pub returns-in-At : goal.returns-in-At
 returns-in-At c =

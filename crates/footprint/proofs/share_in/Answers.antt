@@ -1,12 +1,11 @@
 -- `footprint::share_in`: the place of the first area that gets a share. Assumes nothing.
-use Prim.Native.Nat.{◌-◌, ◌<◌}
-use mathlib.Core.Path.{◌≡◌, refl}
+use Prim.Native.Nat.{◌<◌}
+use mathlib.Core.Path.{refl}
 use lib.ListN.{length}
 use native.Mathlib.Omega.{arith}
 use Rattle.proposal.specs.declared.Gets.TheVariants as gets
 use Rattle.proposal.specs.Promises.{blank}
-use Rattle.footprint.proofs.TurnLaws.{Looking, look-starts, look-turns, look-finds, look-ends}
-use borrow.Author.Rules.{rules}
+use Rattle.footprint.proofs.TurnLaws.{look-starts, look-turns, look-finds, look-ends}
 use Rattle.footprint.proofs.share_in.Goals as goal
 use Rattle.footprint.proofs.share_in.Goals.{in-Nothing, in-Whole, in-RoundedUp}
 
@@ -21,7 +20,7 @@ pub loop-i-preserved : goal.loop-i-preserved
 loop-i-preserved c =
     let inside : c.loop-i.i < length c.args.areas = omega arith in
     elim c.match-gets.branch [
-      in-Nothing w ↦ look-turns c.loop-i.invariant blank inside gets.Nothing w.in-Nothing.is (λ later. refl)
+      | in-Nothing w ↦ look-turns c.loop-i.invariant blank inside gets.Nothing w.in-Nothing.is (λ later. refl)
       | in-Whole w ↦ look-turns c.loop-i.invariant blank inside gets.Whole w.in-Whole.is (λ later. refl)
       | in-RoundedUp w ↦ look-turns c.loop-i.invariant blank inside gets.RoundedUp w.in-RoundedUp.is (λ later. refl)
     ]
