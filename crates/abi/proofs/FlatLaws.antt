@@ -1,8 +1,11 @@
 -- From the contracts of the crates below to those of the C interface. Assumes nothing.
-use Prim.Native.Nat.{ℕ, zero, suc, ◌-◌, ◌≤◌}
+use Prim.Native.Nat.{ℕ, zero, suc, ◌+◌, ◌-◌, ◌≤◌, ◌<◌}
 use mathlib.Core.Path.{◌≡◌, refl, sym, ap, ◌∙◌}
-use mathlib.Core.List.{List, ◌∷◌, ◌++◌, map, map-append, map-map}
-use lib.ListN.{length, take, drop, replicate, take-append-drop}
+use mathlib.Core.List.{List, [], ◌∷◌, ◌++◌, map, map-append, map-map}
+use native.Mathlib.Numerals.{add-one}
+use native.Mathlib.Omega.{arith}
+use lib.ListN.{length, get_or, take, drop, set, replicate, length-set, take-append-drop}
+use lib.Seq.{take-suc, take-suc-set, take_all}
 use Rattle.map.specs.Format.{read_map}
 use Rattle.map.specs.Answers.{LookedUp, refused, lacking, has, look_up}
 use Rattle.map.proofs.Accepted.{part_by, part-is}
@@ -37,6 +40,26 @@ pub record Flattened (areas : List AreaAnswer) (i : ℕ) (given : List Given) : 
   pub within : i ≤ 32
   pub room : length given ≡ 32
   pub each : take i given ≡ map flat (take i areas)
+
+pub flat-turns : {areas : List AreaAnswer} {i : ℕ} {given : List Given} {g : Given} → length areas ≡ 32 → Flattened areas i given → i < 32
+    → g ≡ flat (get_or areas i blank) → Flattened areas (i + 1) (set given i g)
+flat-turns {areas} {i} {given} {g} long w h e =
+    let room = w.room in
+    record {
+      within = omega arith;
+      room = length-set given i g ∙ w.room;
+      each =
+          ap (λ (j : ℕ). take j (set given i g)) (add-one i) ∙ take-suc-set given i g (omega arith)
+          ∙ (λ k. w.each k ++ (e k ∷ []))
+          ∙ sym (map-append flat (take i areas) (get_or areas i blank ∷ []))
+          ∙ ap (map flat) (sym (ap (λ (j : ℕ). take j areas) (add-one i) ∙ take-suc areas i blank (omega arith)));
+    }
+
+pub flat-ends : {areas : List AreaAnswer} {i : ℕ} {given : List Given} → length areas ≡ 32 → Flattened areas i given → 32 ≤ i
+    → given ≡ map flat areas
+flat-ends {areas} {i} {given} long w h =
+    let room = w.room in
+    sym (take_all i given (omega arith)) ∙ w.each ∙ ap (map flat) (take_all i areas (omega arith))
 
 -- ---- the proposal
 
