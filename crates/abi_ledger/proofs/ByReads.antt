@@ -62,7 +62,8 @@ abbrev exported : Interface
 exported = record { EmptyAsks = empty-reads.Pre tt tt; Empties = λ r. empty-reads.Post tt tt r tt; function = function }
 
 pub same-exported : by-contracts.exported ≡ exported
-same-exported i = record { EmptyAsks = empty-reads.Pre tt tt; Empties = λ r. empty-reads.Post tt tt r tt; function = λ c. same-function c i }
+same-exported i =
+    record { EmptyAsks = empty-reads.Pre tt tt; Empties = λ r. empty-reads.Post tt tt r tt; function = λ c. same-function c i }
 
 pub demand-3-by-reads : Demand3 exported
 demand-3-by-reads = subst Demand3 same-exported exported-demand-3

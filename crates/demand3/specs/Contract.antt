@@ -27,7 +27,8 @@ says claim = all_models _ (λ w. r_last claim) (λ w. refl) (λ w. refl) (λ w. 
 
 -- a function's clauses in plain facts
 pub record Contract (T : Ended) (clauses : (w : World) → Clauses w.𝓤 T)
-    (ghosts : (w : World) (lives : Lfts T.signature.lifetimes) (given : ArgsD T.signature lives) → (clauses w lives given).ghost) : Type 2 where
+    (ghosts : (w : World) (lives : Lfts T.signature.lifetimes) (given : ArgsD T.signature lives) → (clauses w lives given).ghost)
+    : Type 2 where
   pub requires : (lives : Lfts T.signature.lifetimes) (given : ArgsD T.signature lives) →
       Said (λ w. (clauses w lives given).requires (ghosts w lives given))
   pub ensures : (lives : Lfts T.signature.lifetimes) (given : ArgsD T.signature lives) (result : ResD T.signature lives)
@@ -37,10 +38,10 @@ module _ {T : Ended} {clauses : (w : World) → Clauses w.𝓤 T}
     {ghosts : (w : World) (lives : Lfts T.signature.lifetimes) (given : ArgsD T.signature lives) → (clauses w lives given).ghost}
     (contract : Contract T clauses ghosts)
   where
-    -- what the function asks of its caller: its `requires`
+    -- what the function asks of its caller: what has to be shown for its `requires`
     abbrev pub Asks : (lives : Lfts T.signature.lifetimes) → ArgsD T.signature lives → Type 0
     Asks lives given = AllOf (contract.requires lives given).owes
 
-    -- what it ensures of what it was given, its result and what it leaves: its `ensures`
+    -- what it ensures of what it was given, its result and what it leaves: what is learnt from its `ensures`
     abbrev pub Ensures : (lives : Lfts T.signature.lifetimes) → ArgsD T.signature lives → ResD T.signature lives → AtExit T lives → Type 0
-    Ensures lives given result left = AllOf (contract.ensures lives given result left).owes
+    Ensures lives given result left = AllOf (contract.ensures lives given result left).tells
