@@ -1,11 +1,8 @@
 -- From the contracts of the crates below to those of the C interface. Assumes nothing.
-use Prim.Native.Nat.{ℕ, zero, suc, ◌+◌, ◌-◌, ◌≤◌, ◌<◌}
+use Prim.Native.Nat.{ℕ, zero, suc, ◌-◌, ◌≤◌}
 use mathlib.Core.Path.{◌≡◌, refl, sym, ap, ◌∙◌}
-use mathlib.Core.List.{List, [], ◌∷◌, ◌++◌, map, map-append, map-map}
-use native.Mathlib.Numerals.{add-one}
-use native.Mathlib.Omega.{arith}
-use lib.ListN.{length, get_or, take, drop, set, replicate, length-set, take-append-drop}
-use lib.Seq.{take-suc, take-suc-set, take_all}
+use mathlib.Core.List.{List, ◌∷◌, ◌++◌, map, map-append, map-map}
+use lib.ListN.{length, take, drop, replicate, take-append-drop}
 use Rattle.map.specs.Format.{read_map}
 use Rattle.map.specs.Answers.{LookedUp, refused, lacking, has, look_up}
 use Rattle.map.proofs.Accepted.{part_by, part-is}
@@ -13,8 +10,6 @@ use Rattle.proposal.specs.declared.AreaAnswer.{AreaAnswer}
 use Rattle.proposal.specs.declared.Proposal as proposed
 use Rattle.proposal.specs.Answer as proposal
 use Rattle.proposal.specs.Promises.{area_means, refusal_number, kind_number, means, blank, Answers}
-use Rattle.footprint.specs.Footprint.{Footprint}
-use Rattle.footprint.specs.Promises.{Reply, Leaves}
 use Rattle.abi.specs.declared.Given.{Given}
 use Rattle.abi.specs.declared.FlatProposal.{FlatProposal}
 use Rattle.abi.specs.Flat.{flat_found, flat_given, none_given, flat_proposal}
@@ -78,10 +73,3 @@ flat-answers {p} {r} d {given = given} ne ke ge =
       white_space = (m i).white;
       areas = all i;
     }
-
--- ---- the footprint
-
--- an answer that means the same
-pub same-reply : {o : Footprint} {r s : Reply} {mask after table entries : List ℕ} → Leaves o r mask after table entries → s ≡ r
-    → Leaves o s mask after table entries
-same-reply d e = record { answer = e ∙ d.answer; bytes = d.bytes; size = d.size; unused = d.unused }

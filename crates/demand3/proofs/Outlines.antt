@@ -20,7 +20,7 @@ use Rattle.proposal.specs.Answer.{Proposal, proposal}
 use Rattle.ring.specs.Ring.{Places, shown}
 use Rattle.rounds.specs.Footprint as outline
 use Rattle.rounds.proofs.Theorems.{right-same}
-use Rattle.footprint.specs.Footprint.{Footprint, refused, short, part_area, covered_cells, footprint_by}
+use Rattle.footprint.specs.Footprint.{Footprint, part_area, covered_cells, footprint_by}
 use Rattle.footprint.specs.Promises.{Reply, Leaves}
 use Rattle.footprint.proofs.ShareLaws.{OneShare}
 use Rattle.footprint.proofs.CaseLaws.{Case, refuses, lacks, makes, cases}

@@ -1,6 +1,5 @@
 -- `abi::codwalet_look_up`: refused, lacking, or the area with the place of its rows. Assumes nothing.
 use mathlib.Core.Path.{sym, ap, subst, ◌∙◌}
-use borrow.Author.Rules.{rules}
 use Rattle.map.specs.Answers.{found_means}
 use Rattle.map.proofs.Accepted.{looked-up, inside_of}
 use Rattle.abi.specs.Flat.{no_area}

@@ -1,5 +1,4 @@
 -- `abi::codwalet_propose`: the proposal in numbers. Assumes nothing.
-use borrow.Author.Rules.{rules}
 use Rattle.abi.proofs.FlatLaws.{flat-answers}
 use Rattle.abi.proofs.codwalet_propose.Goals as goal
 

@@ -7,7 +7,6 @@ use mir.Syntax.{w32}
 use mir.Facts.{to_z-of_z}
 use borrow.Author.Tests.{eq-eqb, ne_eqb}
 use Rattle.ledger.specs.Played.{ground_at}
-use borrow.Author.Rules.{rules}
 use Rattle.ledger.proofs.ground_at.Goals as goal
 
 pub returns-then-calls-at-eq0 : goal.returns-then-calls-at-eq0

@@ -1,26 +1,12 @@
 -- `ledger::play`: the invariant is `Playing`, a run from an empty register over the calls of the words so far. Assumes nothing.
-use Prim.Native.Nat.{◌-◌}
 use native.Mathlib.Omega.{arith}
-use Rattle.ledger.proofs.PlayLaws.{Playing, playing-starts, playing-turns, playing-ends, playing-stops}
-use borrow.Author.Rules.{rules}
+use Rattle.ledger.proofs.PlayLaws.{playing-starts, playing-turns, playing-ends, playing-stops}
 use Rattle.ledger.proofs.play.Goals as goal
 
 pub loop-i-init : goal.loop-i-init
 loop-i-init c =
     let a = c.args in
     playing-starts a.map.now a.calls.now a.mask.now a.table.now c.empty-register.result c.empty-register.ensures
-
-pub overflow_add-refused : goal.overflow_add-refused
-overflow_add-refused c =
-    let few = c.loop-i.invariant.few in
-    let below = c.loop-i-test.true in
-    let one = c.one_refused-refused.ensures.1 in
-    search rules
-
-pub loop-i-smaller : goal.loop-i-smaller
-loop-i-smaller c =
-    let below = c.loop-i-test.true in
-    omega arith
 
 pub loop-i-preserved : goal.loop-i-preserved
 loop-i-preserved c =
@@ -30,12 +16,6 @@ loop-i-preserved c =
     playing-turns a.map.now a.calls.now a.mask.now a.table.now l.invariant c.loop-i-test.true
     r.result r.new.mask r.new.table c.one_refused-refused.result c.if-not-next.false
     r.ensures c.one_refused-refused.ensures r.auto.mask r.auto.table
-
-pub shape_of-mask-after-loop-i : goal.shape_of-mask-after-loop-i
-shape_of-mask-after-loop-i c = c.loop-i.invariant.mask_size
-
-pub shape_of-table-after-loop-i : goal.shape_of-table-after-loop-i
-shape_of-table-after-loop-i c = c.loop-i.invariant.table-size
 
 pub returns-after-loop-i : goal.returns-after-loop-i
 returns-after-loop-i c =

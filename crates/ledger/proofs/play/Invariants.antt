@@ -1,8 +1,6 @@
 -- `ledger::play`: the invariant is `Playing`, a run from an empty register over the calls of the words so far. Assumes nothing.
 use Prim.Native.Nat.{◌-◌}
-use native.Mathlib.Omega.{arith}
-use Rattle.ledger.proofs.PlayLaws.{Playing, playing-starts, playing-turns, playing-ends, playing-stops}
-use borrow.Author.Rules.{rules}
+use Rattle.ledger.proofs.PlayLaws.{Playing}
 use Rattle.ledger.proofs.play.Given as goal
 
 abbrev pub invariant-loop-i : goal.invariant-loop-i

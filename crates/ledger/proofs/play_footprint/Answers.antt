@@ -1,6 +1,5 @@
 -- `ledger::play_footprint`: the step is the contract of `footprint`, and the register stays. Assumes nothing.
 use mathlib.Core.Path.{refl}
-use borrow.Author.Rules.{rules}
 use Rattle.ledger.proofs.play_footprint.Goals as goal
 
 pub returns : goal.returns

@@ -8,7 +8,6 @@ use Rattle.demand3.specs.Calls.{without, mhz}
 use Rattle.ledger.specs.Played.{Item, width_at}
 use Rattle.ledger.specs.Code.{ItemDone}
 use Rattle.ledger.proofs.PlayLaws.{item-grant, item-width, item-cancel, item-propose, item-footprint, item-unknown}
-use borrow.Author.Rules.{rules}
 use Rattle.ledger.proofs.play_item.Goals as goal
 
 pub returns-in-0 : goal.returns-in-0
