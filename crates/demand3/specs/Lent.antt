@@ -59,8 +59,10 @@ proposing draw {A} number Says Pre Post = record {
 abbrev pub OnBuffers : Type 0
 OnBuffers = Bor (List ℕ) × (Register × (ℕ × (MutBor (List ℕ) × (MutBor (List ℕ) × Unit {0}))))
 
-abbrev pub on_buffers : (lies : Where) (masks tables : WhereWritten) → (map : List ℕ) → Register → (draw : ℕ) → (mask table : List ℕ) → OnBuffers
-on_buffers lies masks tables map r draw mask table = (lent lies map, (r, (draw, (lent_to_write masks mask, (lent_to_write tables table, tt)))))
+abbrev pub on_buffers : (lies : Where) (masks tables : WhereWritten) → (map : List ℕ) → Register → (draw : ℕ) →
+    (mask table : List ℕ) → OnBuffers
+on_buffers lies masks tables map r draw mask table =
+    (lent lies map, (r, (draw, (lent_to_write masks mask, (lent_to_write tables table, tt)))))
 
 -- what it ensures, lent all three for some time; the mask and the table come back as it leaves them
 pub record Outlines {A : Type 0} (Post : Lfts 3 → OnBuffers → A → OnBuffers → Type 0) (map : List ℕ) (r : Register) (draw : ℕ)
@@ -79,6 +81,7 @@ outlining draw mask table {A} means Pre Post = record {
   Answer = Outlined A;
   number = λ a. (means a.answer).refused;
   Says = λ a o. record { answer = means a.answer; mask = a.mask; table = a.table } ≡ o;
-  Asks = λ map r. (lives : Lfts 3) (lies : Where) (masks tables : WhereWritten) → Pre lives (on_buffers lies masks tables map r draw mask table);
+  Asks = λ map r. (lives : Lfts 3) (lies : Where) (masks tables : WhereWritten) →
+      Pre lives (on_buffers lies masks tables map r draw mask table);
   Step = λ map r a next. Outlines Post map r draw mask table a × (next ≡ r);
 }
