@@ -1,5 +1,6 @@
-// The C interface: the engine's functions for callers in C and Rust, declared in host/include/codwalet.h. Structs are flat, have no
-// padding and cross by value; maps, masks and tables cross as pointer and length. Refusals are document 01's numbers, 0 for none.
+// The C interface: the engine's functions for callers in C and Rust, declared in host/include/codwalet.h and exported by the static library
+// `abi_c`. Structs are flat, have no padding and cross by value; maps, masks and tables cross as pointer and length. Refusals are
+// document 01's numbers, 0 for none.
 #![tactic(auto)]
 
 ghost use Rattle.std.specs.Prelude.{◌≡◌, map as each, length};
@@ -90,56 +91,49 @@ pub struct Outline {
 }
 
 // The version of the interface that these functions have: callers compare it with the one that they were written for.
-#[unsafe(no_mangle)]
-pub extern "C" fn codwalet_version() -> u32
+pub fn codwalet_version() -> u32
     ensures { result ≡ version }
 {
     3
 }
 
 // The register with no licence in force.
-#[unsafe(no_mangle)]
-pub extern "C" fn codwalet_empty() -> Register
+pub fn codwalet_empty() -> Register
     ensures { EmptyDone result }
 {
     Register::empty()
 }
 
 // The register with a licence granted without a width: it counts as 50 MHz.
-#[unsafe(no_mangle)]
-pub extern "C" fn codwalet_grant(current: Register, licence: FlatLicence) -> Step
+pub fn codwalet_grant(current: Register, licence: FlatLicence) -> Step
     ensures { GrantStep current (licence_at_width licence full_width) result }
 {
     current.grant_step(licence.granted(Licence::FULL_WIDTH))
 }
 
 // The register with a licence granted at a width in MHz.
-#[unsafe(no_mangle)]
-pub extern "C" fn codwalet_grant_width(current: Register, licence: FlatLicence, width: u32) -> Step
+pub fn codwalet_grant_width(current: Register, licence: FlatLicence, width: u32) -> Step
     ensures { GrantStep current (licence_at_width licence width) result }
 {
     current.grant_step(licence.granted(width))
 }
 
 // The register with a licence cancelled.
-#[unsafe(no_mangle)]
-pub extern "C" fn codwalet_cancel(current: Register, call_sign: u32) -> Step
+pub fn codwalet_cancel(current: Register, call_sign: u32) -> Step
     ensures { CancelStep current call_sign result }
 {
     current.cancel_step(call_sign)
 }
 
 // Whether a map is accepted: 0, or the number of the refusal.
-#[unsafe(no_mangle)]
-pub extern "C" fn codwalet_check_map(map: &[u8]) -> u32
+pub fn codwalet_check_map(map: &[u8]) -> u32
     ensures { result ≡ number_of (read_map map.now) }
 {
     map::check(map).number()
 }
 
 // The area with a number.
-#[unsafe(no_mangle)]
-pub extern "C" fn codwalet_look_up(map: &[u8], number: u16) -> FoundArea
+pub fn codwalet_look_up(map: &[u8], number: u16) -> FoundArea
     ensures { FoundDone map.now number result }
 {
     match map::look_up(map, number) {
@@ -176,8 +170,7 @@ fn not_found(refusal: u32) -> FoundArea
 }
 
 // The MHz-pops and the cells that licences in force cover in the area with a number.
-#[unsafe(no_mangle)]
-pub extern "C" fn codwalet_coverage(map: &[u8], current: Register, number: u16) -> Covered
+pub fn codwalet_coverage(map: &[u8], current: Register, number: u16) -> Covered
     ensures { result ≡ flat_covered (coverage_at number (in_force current.places) (read_map map.now)) }
 {
     match coverage::coverage(map, current, number) {
@@ -201,8 +194,7 @@ pub extern "C" fn codwalet_coverage(map: &[u8], current: Register, number: u16) 
 }
 
 // The blocks of the area with a number.
-#[unsafe(no_mangle)]
-pub extern "C" fn codwalet_blocks(map: &[u8], current: Register, number: u16) -> Held
+pub fn codwalet_blocks(map: &[u8], current: Register, number: u16) -> Held
     ensures { result ≡ flat_held (blocks_at number (in_force current.places) (read_map map.now)) }
 {
     match coverage::blocks(map, current, number) {
@@ -228,8 +220,7 @@ pub extern "C" fn codwalet_blocks(map: &[u8], current: Register, number: u16) ->
 }
 
 // The proposal with a draw among tied areas.
-#[unsafe(no_mangle)]
-pub extern "C" fn codwalet_propose(map: &[u8], current: Register, draw: u32) -> FlatProposal
+pub fn codwalet_propose(map: &[u8], current: Register, draw: u32) -> FlatProposal
     ensures { result ≡ flat_proposal (proposal_on (read_map map.now) (in_force current.places) draw) }
 {
     let p = proposal::propose(map, current, draw);
@@ -313,8 +304,7 @@ fn gets_share(gets: Gets) -> u64
 }
 
 // The footprint of the partial area of the proposal with a draw.
-#[unsafe(no_mangle)]
-pub extern "C" fn codwalet_footprint(
+pub fn codwalet_footprint(
     map: &[u8],
     current: Register,
     draw: u32,

@@ -1,5 +1,6 @@
 -- Document 01, "The list of demand 3", through the C interface: what is known of each exported function is its own contract, read off the
--- clauses in the source, as in ledger's specs/Engine. What lists, runs and demand 3 are stands in `demand3`. Assumes nothing.
+-- clauses in the source, as in ledger's specs/Engine. The functions are those of `abi`; each export of `abi_c` calls one and has the same
+-- contract (abi_c's proofs/Exports). What lists, runs and demand 3 are stands in `demand3`. Assumes nothing.
 use Rattle.std.specs.Prelude.{ℕ, ◌≡◌}
 use Rattle.register.specs.declared.Ground.{Ground}
 use Rattle.register.specs.declared.FlatLicence.{FlatLicence}

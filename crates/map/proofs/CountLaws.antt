@@ -1,5 +1,6 @@
 -- Laws of what is counted: a row counts what its cells count, and the counts of an area of an accepted map are small. Assumes nothing.
-use Rattle.std.proofs.Common.{◌≡◌, ℕ, zero, suc, ◌+◌, ◌*◌, ◌/◌, ◌<◌, ◌≤◌, Bool, true, false, ◌&&◌, List, [], ◌∷◌, length, get_or, ℤ, pos, sym, refl, ap, ◌∙◌, subst, mul-le-mul, mul-zero, mul-suc, arith}
+use Rattle.std.proofs.Common.{◌≡◌, ℕ, zero, suc, ◌+◌, ◌*◌, ◌/◌, ◌<◌, ◌≤◌, Bool, true, false, ◌&&◌, List, [], ◌∷◌, length, get_or, ℤ, pos}
+use Rattle.std.proofs.Common.{sym, refl, ap, ◌∙◌, subst, mul-le-mul, mul-zero, mul-suc, arith}
 use Rattle.lists.specs.Sums.{total, flag, count, every_below, sum_below, All}
 use Rattle.lists.proofs.Tests.{first_of, second-of}
 use Rattle.lists.proofs.SumLaws.{count_most, length-total, total-zero}

@@ -1,5 +1,6 @@
 -- Laws of fields: a value that was read and tested, by the test of its room. Assumes nothing.
-use Rattle.std.proofs.Common.{◌≡◌, ℕ, zero, suc, ◌+◌, ◌-◌, ◌*◌, ◌/◌, ◌%◌, ◌^◌, ◌<◌, ◌≤◌, Bool, true, false, cond, eqb, leb, List, length, get_or, pos, negsuc, ◌-ℤ◌, sym, refl, ap, ◌∙◌, pow-suc, zero-add, arith, le-leb, leb-false, leb-true}
+use Rattle.std.proofs.Common.{◌≡◌, ℕ, zero, suc, ◌+◌, ◌-◌, ◌*◌, ◌/◌, ◌%◌, ◌^◌, ◌<◌, ◌≤◌, Bool, true, false, cond, eqb, leb, List, length}
+use Rattle.std.proofs.Common.{get_or, pos, negsuc, ◌-ℤ◌, sym, refl, ap, ◌∙◌, pow-suc, zero-add, arith, le-leb, leb-false, leb-true}
 use native.Mathlib.Nat.{zero-div}
 use borrow.Author.Tests.{lt-leb}
 use lib.ListN.{get_or-eq_default}

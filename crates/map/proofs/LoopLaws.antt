@@ -1,5 +1,6 @@
 -- Laws of the loops that read one item after another. Assumes nothing.
-use Rattle.std.proofs.Common.{◌≡◌, ℕ, suc, ◌+◌, ◌-◌, ◌*◌, ◌<◌, ◌≤◌, Bool, true, false, not, ◌&&◌, List, [], ◌∷◌, ℤ, sym, refl, ap, ◌∙◌, subst, add-zero, add_assoc, mul-le-mul_left, zero-add, mul-suc, add-one, arith}
+use Rattle.std.proofs.Common.{◌≡◌, ℕ, suc, ◌+◌, ◌-◌, ◌*◌, ◌<◌, ◌≤◌, Bool, true, false, not, ◌&&◌, List, [], ◌∷◌, ℤ, sym, refl, ap, ◌∙◌}
+use Rattle.std.proofs.Common.{subst, add-zero, add_assoc, mul-le-mul_left, zero-add, mul-suc, add-one, arith}
 use Rattle.units.proofs.Laws.{exact}
 use Rattle.map.specs.declared.parts.Counts.{Counts}
 use Rattle.map.specs.declared.parts.Tally.{Tally}

@@ -1,5 +1,7 @@
 -- The rows of an area read the same in the part of the map that holds them. Assumes nothing.
-use Rattle.std.proofs.Common.{◌≡◌, ℕ, zero, suc, ◌+◌, ◌-◌, ◌*◌, ◌/◌, ◌%◌, ◌^◌, ◌<◌, ◌≤◌, Bool, true, false, cond, not, ◌&&◌, eqb, leb, List, ◌∷◌, length, get_or, take, drop, ℤ, sym, refl, ap, ◌∙◌, subst, arith, length-drop, length-take-le, get_or-drop, get_or-take, le-leb}
+use Rattle.std.proofs.Common.{◌≡◌, ℕ, zero, suc, ◌+◌, ◌-◌, ◌*◌, ◌/◌, ◌%◌, ◌^◌, ◌<◌, ◌≤◌, Bool, true, false, cond, not, ◌&&◌, eqb, leb}
+use Rattle.std.proofs.Common.{List, ◌∷◌, length, get_or, take, drop, ℤ, sym, refl, ap, ◌∙◌, subst, arith, length-drop, length-take-le}
+use Rattle.std.proofs.Common.{get_or-drop, get_or-take, le-leb}
 use Rattle.map.specs.declared.Cell.{Cell}
 use Rattle.map.specs.Reading.{Read, bad, good, bind, many}
 use Rattle.map.specs.Format.{

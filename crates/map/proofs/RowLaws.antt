@@ -1,5 +1,7 @@
 -- Laws of a row's cells: they are counted by the bits that stand, and read one after another. Assumes nothing.
-use Rattle.std.proofs.Common.{◌≡◌, ℕ, zero, suc, ◌+◌, ◌-◌, ◌*◌, ◌/◌, ◌%◌, ◌^◌, ◌<◌, ◌≤◌, Bool, true, false, cond, not, ◌&&◌, eqb, leb, List, [], ◌∷◌, ◌++◌, length, get_or, ℤ, sym, refl, ap, ◌∙◌, add-zero, pow-suc, zero-add, div-one, add-one, arith, eqb-true, le-leb, leb-true}
+use Rattle.std.proofs.Common.{◌≡◌, ℕ, zero, suc, ◌+◌, ◌-◌, ◌*◌, ◌/◌, ◌%◌, ◌^◌, ◌<◌, ◌≤◌, Bool, true, false, cond, not, ◌&&◌, eqb, leb}
+use Rattle.std.proofs.Common.{List, [], ◌∷◌, ◌++◌, length, get_or, ℤ, sym, refl, ap, ◌∙◌, add-zero, pow-suc, zero-add, div-one, add-one}
+use Rattle.std.proofs.Common.{arith, eqb-true, le-leb, leb-true}
 use mathlib.Core.Bool.{and-true, and_assoc}
 use native.Mathlib.Nat.{div-eq_of_lt, div-div-eq-div-mul}
 use lib.Count.{ones, ones_step}

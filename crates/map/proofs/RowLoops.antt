@@ -1,5 +1,6 @@
 -- Laws of the loops over a row's bytes and cells. Assumes nothing.
-use Rattle.std.proofs.Common.{◌≡◌, ℕ, ◌+◌, ◌*◌, ◌%◌, ◌^◌, ◌<◌, ◌≤◌, Bool, true, ◌&&◌, List, [], ◌∷◌, ◌++◌, get_or, ℤ, sym, refl, ap, ◌∙◌, mod-eq_of_lt, add-one, arith}
+use Rattle.std.proofs.Common.{◌≡◌, ℕ, ◌+◌, ◌*◌, ◌%◌, ◌^◌, ◌<◌, ◌≤◌, Bool, true, ◌&&◌, List, [], ◌∷◌, ◌++◌, get_or, ℤ, sym, refl, ap, ◌∙◌}
+use Rattle.std.proofs.Common.{mod-eq_of_lt, add-one, arith}
 use native.Mathlib.Nat.{mod-add-mod}
 use lib.Count.{ones}
 use Rattle.lists.specs.Sums.{total}

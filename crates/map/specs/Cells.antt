@@ -1,5 +1,6 @@
 -- Document 01, "The map": the cells of a row, which stand one after another. Assumes nothing.
-use Rattle.std.specs.Prelude.{◌≡◌, ℕ, zero, suc, ◌+◌, ◌*◌, ◌<◌, Bool, true, ◌&&◌, List, [], ◌∷◌, ℤ, pos, nat_le, slice_index, slice_index_or}
+use Rattle.std.specs.Prelude.{◌≡◌, ℕ, zero, suc, ◌+◌, ◌*◌, ◌<◌, Bool, true, ◌&&◌, List, [], ◌∷◌, ℤ, pos, nat_le, slice_index}
+use Rattle.std.specs.Prelude.{slice_index_or}
 use Rattle.lists.specs.Sums.{total, flag}
 use Rattle.units.specs.Coordinates.{is_latitude, is_longitude}
 use Rattle.map.specs.declared.Cell.{Cell}

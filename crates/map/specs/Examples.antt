@@ -237,6 +237,6 @@ all_walked [] = true
 all_walked (w ∷ ws) = walked_in w (read_map row) && all_walked ws
 
 walks-right : all_walked walked ≡ true
-unfolding count sum_below boxes_over width_over boxed_mhz_pops boxed_cells many number_at signed32 field read_cell bit_at read_place clear_from read_row
-    number_field size_field read_head read_body read_area read_areas read_rest read_map
+unfolding count sum_below boxes_over width_over boxed_mhz_pops boxed_cells many number_at signed32 field read_cell bit_at read_place
+    clear_from read_row number_field size_field read_head read_body read_area read_areas read_rest read_map
 walks-right = refl

@@ -1,5 +1,6 @@
 -- Document 01, "The map" and refusals 1 to 5: the byte format, read from a position of the map's bytes. Assumes nothing.
-use Rattle.std.specs.Prelude.{ℕ, zero, suc, ◌+◌, ◌-◌, ◌*◌, ◌/◌, ◌%◌, ◌^◌, Bool, true, cond, not, ◌&&◌, List, [], ◌∷◌, length, ℤ, pos, negsuc, ◌==◌, nat_le, nat_lt, slice_index}
+use Rattle.std.specs.Prelude.{ℕ, zero, suc, ◌+◌, ◌-◌, ◌*◌, ◌/◌, ◌%◌, ◌^◌, Bool, true, cond, not, ◌&&◌, List, [], ◌∷◌, length, ℤ, pos}
+use Rattle.std.specs.Prelude.{negsuc, ◌==◌, nat_le, nat_lt, slice_index}
 use Rattle.lists.specs.Sums.{total}
 use Rattle.units.specs.Coordinates.{is_latitude, is_longitude}
 use Rattle.map.specs.declared.Cell.{Cell}

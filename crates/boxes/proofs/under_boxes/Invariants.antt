@@ -12,7 +12,11 @@ abbrev pub invariant-loop-i : goal.invariant-loop-i
 invariant-loop-i l =
     (l.i ≤ l.m) × (l.sum ≤ 255 * 256_000_000 * l.i) × (l.cells ≤ 256 * l.i)
     × (l.sum
-    ≡ sum_to (λ k. get_or l.people k 0 * width_to l.widths (box_at l.edges (get_or l.latitudes k (pos 0)) (get_or l.longitudes k (pos 0)) l.m) l.i) l.n)
+    ≡ sum_to
+    (λ k.
+    get_or l.people k 0
+    * width_to l.widths (box_at l.edges (get_or l.latitudes k (pos 0)) (get_or l.longitudes k (pos 0)) l.m) l.i)
+    l.n)
     × (l.cells ≡ sum_to (λ k. count (box_at l.edges (get_or l.latitudes k (pos 0)) (get_or l.longitudes k (pos 0)) l.m) l.i) l.n)
     × ((j : ℕ) → j < l.i → get_or l.widths j 0 ≤ 255)
 

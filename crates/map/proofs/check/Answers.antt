@@ -1,4 +1,4 @@
--- `map::check`: what a look_up of any number says of the map. Assumes nothing.
+-- `map::check`: what a look-up of any number says of the map. Assumes nothing.
 use Rattle.std.proofs.Common.{sym, ap, ◌∙◌}
 use Rattle.map.proofs.AreaLaws.{looked_number, number_is}
 use Rattle.map.specs.Format.{read_map}
