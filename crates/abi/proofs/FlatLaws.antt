@@ -1,18 +1,20 @@
 -- From the contracts of the crates below to those of the C interface. Assumes nothing.
-use Prim.Native.Nat.{ℕ, zero, suc, ◌+◌, ◌-◌, ◌≤◌, ◌<◌}
+use Prim.Native.Nat.{ℕ, zero, suc, ◌-◌, ◌<◌}
 use mathlib.Core.Path.{◌≡◌, refl, sym, ap, ◌∙◌}
-use mathlib.Core.List.{List, [], ◌∷◌, ◌++◌, map, map-append, map-map}
-use native.Mathlib.Numerals.{add-one}
+use mathlib.Core.List.{List, ◌∷◌, ◌++◌, map, map-append, map-map}
 use native.Mathlib.Omega.{arith}
-use lib.ListN.{length, get_or, take, drop, set, replicate, length-set, take-append-drop}
-use lib.Seq.{take-suc, take-suc-set, take_all}
+use lib.ListN.{length, get_or, take, drop, replicate, length-map, take-append-drop}
+use Rattle.std.proofs.lemmas.List.{same_lists, get_or-map}
+use Rattle.std.proofs.Common.{Ok, Err}
 use Rattle.map.specs.Format.{read_map}
 use Rattle.map.specs.Answers.{LookedUp, refused, lacking, has, look_up}
 use Rattle.map.proofs.Accepted.{part_by, part-is}
 use Rattle.proposal.specs.declared.AreaAnswer.{AreaAnswer}
-use Rattle.proposal.specs.declared.Proposal as proposed
+use Rattle.proposal.specs.declared.ProposalRefusal.{ProposalRefusal}
+use Rattle.proposal.specs.declared.answer.Proposal as proposed
 use Rattle.proposal.specs.Answer as proposal
-use Rattle.proposal.specs.Promises.{area_means, refusal_number, kind_number, means, blank, Answers}
+use Rattle.search.specs.Proposal.{kind_number}
+use Rattle.proposal.specs.Promises.{area_means, refusal_number, means, blank, Laid, Answers}
 use Rattle.abi.specs.declared.Given.{Given}
 use Rattle.abi.specs.declared.FlatProposal.{FlatProposal}
 use Rattle.abi.specs.Flat.{flat_found, flat_given, none_given, flat_proposal}
@@ -35,31 +37,12 @@ found-done bytes number u e =
 abbrev flat : AreaAnswer → Given
 flat a = flat_given (area_means a)
 
--- the invariant of the loop at area i
-pub record Flattened (areas : List AreaAnswer) (i : ℕ) (given : List Given) : Type 0 where
-  pub within : i ≤ 32
-  pub room : length given ≡ 32
-  pub each : take i given ≡ map flat (take i areas)
-
-pub flat-turns : {areas : List AreaAnswer} {i : ℕ} {given : List Given} {g : Given} → length areas ≡ 32 → Flattened areas i given → i < 32
-    → g ≡ flat (get_or areas i blank) → Flattened areas (i + 1) (set given i g)
-flat-turns {areas} {i} {given} {g} long w h e =
-    let room = w.room in
-    record {
-      within = omega arith;
-      room = length-set given i g ∙ w.room;
-      each =
-          ap (λ (j : ℕ). take j (set given i g)) (add-one i) ∙ take-suc-set given i g (omega arith)
-          ∙ (λ k. w.each k ++ (e k ∷ []))
-          ∙ sym (map-append flat (take i areas) (get_or areas i blank ∷ []))
-          ∙ ap (map flat) (sym (ap (λ (j : ℕ). take j areas) (add-one i) ∙ take-suc areas i blank (omega arith)));
-    }
-
-pub flat-ends : {areas : List AreaAnswer} {i : ℕ} {given : List Given} → length areas ≡ 32 → Flattened areas i given → 32 ≤ i
-    → given ≡ map flat areas
-flat-ends {areas} {i} {given} long w h =
-    let room = w.room in
-    sym (take_all i given (omega arith)) ∙ w.each ∙ ap (map flat) (take_all i areas (omega arith))
+-- an array that is made entry by entry
+pub each-given : (areas : List AreaAnswer) {given : List Given} → length given ≡ length areas
+    → ((i : ℕ) (e : Given) → i < length areas → get_or given i e ≡ flat (get_or areas i blank)) → given ≡ map flat areas
+each-given areas {given} long each =
+    same_lists given (map flat areas) (long ∙ sym (length-map areas flat))
+    (λ i e l. each i e (omega (arith, l, long)) ∙ sym (get_or-map flat areas i blank e (omega (arith, l, long))))
 
 -- ---- the proposal
 
@@ -67,10 +50,23 @@ map-replicate : (n : ℕ) → map flat (replicate n blank) ≡ replicate n none_
 map-replicate zero = refl
 map-replicate (suc n) = ap (λ l. none_given ∷ l) (map-replicate n)
 
-pub flat-answers : {p : proposal.Proposal} {r : proposed.Proposal} → Answers p r → {n k : ℕ} {given : List Given}
-    → n ≡ refusal_number r.outcome → k ≡ kind_number r.outcome → given ≡ map flat r.areas
+pub flat-refused : {p : proposal.Proposal} {r : ProposalRefusal} → Answers p (Err r) → {n : ℕ} → n ≡ refusal_number r
     → ◌≡◌ {A = FlatProposal} (record {
       refusal = n;
+      kind = 0;
+      tied = 0;
+      count = 0;
+      target = 0;
+      white_space = 0;
+      areas = replicate 32 none_given;
+    }) (flat_proposal p)
+unfolding flat_proposal
+flat-refused d e = rw e (ap flat_proposal d.meaning)
+
+pub flat-answers : {p : proposal.Proposal} {r : proposed.Proposal} → Answers p (Ok r) → {k : ℕ} {given : List Given}
+    → k ≡ kind_number r.kind → given ≡ map flat r.areas
+    → ◌≡◌ {A = FlatProposal} (record {
+      refusal = 0;
       kind = k;
       tied = r.tied;
       count = r.count;
@@ -79,19 +75,20 @@ pub flat-answers : {p : proposal.Proposal} {r : proposed.Proposal} → Answers p
       areas = given;
     }) (flat_proposal p)
 unfolding means flat_proposal
-flat-answers {p} {r} d {given = given} ne ke ge =
+flat-answers {p} {r} d {given = given} ke ge =
     let m = d.meaning in
+    let laid : Laid p r = d.laid in
     let all : given ≡ map flat_given p.areas ++ replicate (32 - length p.areas) none_given =
     ge ∙ ap (map flat) (sym (take-append-drop r.count r.areas))
     ∙ map-append flat (take r.count r.areas) (drop r.count r.areas)
-    ∙ (λ i. sym (map-map flat_given area_means (take r.count r.areas)) i ++ map flat (d.past i))
+    ∙ (λ i. sym (map-map flat_given area_means (take r.count r.areas)) i ++ map flat (laid.past i))
     ∙ (λ i. map flat_given (m i).areas ++ map-replicate (32 - r.count) i)
-    ∙ ap (λ (c : ℕ). map flat_given p.areas ++ replicate (32 - c) none_given) d.count in
+    ∙ ap (λ (c : ℕ). map flat_given p.areas ++ replicate (32 - c) none_given) laid.count in
     λ i. record {
-      refusal = (ne ∙ ap (λ q. q.refused) m) i;
+      refusal = (m i).refused;
       kind = (ke ∙ ap (λ q. q.kind) m) i;
       tied = (m i).tied;
-      count = d.count i;
+      count = laid.count i;
       target = (m i).target;
       white_space = (m i).white;
       areas = all i;

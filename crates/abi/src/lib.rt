@@ -10,20 +10,19 @@ ghost use Rattle.register.specs.Licences.{full_width, licence_at_width, in_force
 ghost use Rattle.register.specs.Promises.{EmptyDone, GrantStep, CancelStep};
 ghost use Rattle.coverage.specs.Answers.{coverage_at, blocks_at};
 ghost use Rattle.proposal.specs.Answer.{proposal_on};
-ghost use Rattle.proposal.specs.Promises.{gets_means, area_means};
+ghost use Rattle.proposal.specs.Promises.{area_means};
 ghost use Rattle.footprint.specs.Footprint.{footprint_on};
-ghost use Rattle.footprint.specs.Promises.{means};
-ghost use Rattle.abi.specs.Flat.{version, no_area, flat_covered, flat_held, gets_number, gets_amount, flat_given, flat_proposal};
+ghost use Rattle.footprint.specs.Promises.{means, needed_by};
+ghost use Rattle.abi.specs.Flat.{version, flat_covered, flat_held, flat_given, flat_proposal};
 ghost use Rattle.abi.specs.Flat.{outline_means};
 ghost use Rattle.abi.specs.Promises.{FoundDone, OutlineDone};
 
-use coverage::{BlocksAnswer, CoverageAnswer};
-use footprint::FootprintAnswer;
-use map::Found;
-use proposal::{AreaAnswer, Gets, Proposal};
+use footprint::FootprintRefusal;
+use proposal::{AreaAnswer, Gets};
 use register::{FlatLicence, Licence, Register, Step};
 
 // An area of a map: its head, its population, and where its rows stand. All 0 where the map is refused or lacks the number.
+// Kept as plain numbers for C: a refusal is 0 for none.
 #[repr(C)]
 #[derive(Clone, Copy)]
 pub struct FoundArea {
@@ -37,6 +36,7 @@ pub struct FoundArea {
 }
 
 // The MHz-pops and the cells that licences in force cover in an area.
+// Kept as plain numbers for C: a refusal is 0 for none.
 #[repr(C)]
 #[derive(Clone, Copy)]
 pub struct Covered {
@@ -47,6 +47,7 @@ pub struct Covered {
 }
 
 // The blocks of an area.
+// Kept as plain numbers for C: a refusal is 0 for none.
 #[repr(C)]
 #[derive(Clone, Copy)]
 pub struct Held {
@@ -58,6 +59,7 @@ pub struct Held {
 }
 
 // What a proposal gives an area, and its sum of cells. Gets is 0 for nothing, 1 for whole, 2 for rounded up and 3 for a share.
+// Kept as plain numbers for C: what an area gets has a number.
 #[repr(C)]
 #[derive(Clone, Copy)]
 pub struct Given {
@@ -69,6 +71,7 @@ pub struct Given {
 }
 
 // A proposal. The map's areas are the first count of areas, and the others are all 0.
+// Kept as plain numbers for C: refusal and kind are 0 for none, and 32 areas stand with a count.
 #[repr(C)]
 #[derive(Clone, Copy)]
 pub struct FlatProposal {
@@ -82,12 +85,92 @@ pub struct FlatProposal {
 }
 
 // What a footprint answers: the area's number, and at refusal 8 the count of entries that the table must have.
+// Kept as plain numbers for C: a refusal is 0 for none.
 #[repr(C)]
 #[derive(Clone, Copy)]
 pub struct Outline {
     pub refusal: u32,
     pub area: u32,
     pub needed: u64,
+}
+
+impl FoundArea {
+    // No area.
+    const NONE: FoundArea = FoundArea {
+        refusal: 0,
+        weight: 0,
+        rows: 0,
+        columns: 0,
+        population: 0,
+        offset: 0,
+        length: 0,
+    };
+}
+
+impl Covered {
+    // What is covered in no area.
+    const NONE: Covered = Covered {
+        mhz_pops: 0,
+        cells: 0,
+        refusal: 0,
+        unused: 0,
+    };
+}
+
+impl Held {
+    // The blocks of no area.
+    const NONE: Held = Held {
+        whole: 0,
+        value: 0,
+        size: 0,
+        refusal: 0,
+        unused: 0,
+    };
+}
+
+impl Given {
+    // What stands at the entries past the areas of a map.
+    const NONE: Given = Given {
+        number: 0,
+        gets: 0,
+        blocks: 0,
+        share: 0,
+        cells: 0,
+    };
+}
+
+// What a proposal gives an area, in plain numbers.
+impl From<AreaAnswer> for Given {
+    ghost from_gives = { λ a g. g ≡ flat_given (area_means a) };
+
+    fn from(a: AreaAnswer) -> Given {
+        let (gets, share) = match a.gets {
+            Gets::Nothing => (0, 0),
+            Gets::Whole => (1, 0),
+            Gets::RoundedUp => (2, 0),
+            Gets::Share(share) => (3, share.0),
+        };
+        Given {
+            number: u32::from(a.number),
+            gets,
+            blocks: a.blocks,
+            share,
+            cells: a.cells.0,
+        }
+    }
+}
+
+impl FlatProposal {
+    // The proposal for no area.
+    const NONE: FlatProposal = FlatProposal {
+        refusal: 0,
+        kind: 0,
+        tied: 0,
+        count: 0,
+        target: 0,
+        white_space: 0,
+        areas: [Given::NONE; 32],
+    };
 }
 
 // The version of the interface that these functions have: callers compare it with the one that they were written for.
@@ -129,7 +212,10 @@ pub fn codwalet_cancel(current: Register, call_sign: u32) -> Step
 pub fn codwalet_check_map(map: &[u8]) -> u32
     ensures { result ≡ number_of (read_map map.now) }
 {
-    map::check(map).number()
+    match map::check(map) {
+        Ok(()) => 0,
+        Err(fault) => u32::from(fault),
+    }
 }
 
 // The area with a number.
@@ -137,35 +223,20 @@ pub fn codwalet_look_up(map: &[u8], number: u16) -> FoundArea
     ensures { FoundDone map.now number result }
 {
     match map::look_up(map, number) {
-        Found::Refused(f) => not_found(f.number()),
-        Found::Lacking => not_found(0),
-        Found::At(a) => {
-            let population = a.population;
-            FoundArea {
-                refusal: 0,
-                weight: a.weight,
-                rows: a.rows as u64,
-                columns: a.columns as u64,
-                population: population.0,
-                offset: a.start as u64,
-                length: (a.end - a.start) as u64,
-            }
-        }
-    }
-}
-
-// The answer where no area is found.
-fn not_found(refusal: u32) -> FoundArea
-    ensures { result ≡ no_area refusal }
-{
-    FoundArea {
-        refusal,
-        weight: 0,
-        rows: 0,
-        columns: 0,
-        population: 0,
-        offset: 0,
-        length: 0,
+        Err(fault) => FoundArea {
+            refusal: u32::from(fault),
+            ..FoundArea::NONE
+        },
+        Ok(None) => FoundArea::NONE,
+        Ok(Some(a)) => FoundArea {
+            refusal: 0,
+            weight: a.weight,
+            rows: a.rows as u64,
+            columns: a.columns as u64,
+            population: a.population.0,
+            offset: a.start as u64,
+            length: (a.end - a.start) as u64,
+        },
     }
 }
 
@@ -174,22 +245,15 @@ pub fn codwalet_coverage(map: &[u8], current: Register, number: u16) -> Covered
     ensures { result ≡ flat_covered (coverage_at number (in_force current.places) (read_map map.now)) }
 {
     match coverage::coverage(map, current, number) {
-        CoverageAnswer::Refused(f) => Covered {
-            mhz_pops: 0,
-            cells: 0,
-            refusal: f.number(),
-            unused: 0,
+        Err(fault) => Covered {
+            refusal: u32::from(fault),
+            ..Covered::NONE
         },
-        CoverageAnswer::Covered(sums) => {
-            let mhz_pops = sums.mhz_pops;
-            let cells = sums.cells;
-            Covered {
-                mhz_pops: mhz_pops.0,
-                cells: cells.0,
-                refusal: 0,
-                unused: 0,
-            }
-        }
+        Ok(sums) => Covered {
+            mhz_pops: sums.mhz_pops.0,
+            cells: sums.cells.0,
+            ..Covered::NONE
+        },
     }
 }
 
@@ -198,24 +262,16 @@ pub fn codwalet_blocks(map: &[u8], current: Register, number: u16) -> Held
     ensures { result ≡ flat_held (blocks_at number (in_force current.places) (read_map map.now)) }
 {
     match coverage::blocks(map, current, number) {
-        BlocksAnswer::Refused(f) => Held {
-            whole: 0,
-            value: 0,
-            size: 0,
-            refusal: f.number(),
-            unused: 0,
+        Err(fault) => Held {
+            refusal: u32::from(fault),
+            ..Held::NONE
         },
-        BlocksAnswer::Held(b) => {
-            let value = b.value;
-            let size = b.size;
-            Held {
-                whole: b.whole,
-                value: value.0,
-                size: size.0,
-                refusal: 0,
-                unused: 0,
-            }
-        }
+        Ok(b) => Held {
+            whole: b.whole,
+            value: b.value.0,
+            size: b.size.0,
+            ..Held::NONE
+        },
     }
 }
 
@@ -223,84 +279,28 @@ pub fn codwalet_blocks(map: &[u8], current: Register, number: u16) -> Held
 pub fn codwalet_propose(map: &[u8], current: Register, draw: u32) -> FlatProposal
     ensures { result ≡ flat_proposal (proposal_on (read_map map.now) (in_force current.places) draw) }
 {
-    let p = proposal::propose(map, current, draw);
-    let outcome = p.outcome;
-    let target = p.target;
-    let white_space = p.white_space;
-    let areas = p.areas;
-    FlatProposal {
-        refusal: outcome.refusal(),
-        kind: outcome.kind(),
-        tied: p.tied as u64,
-        count: p.count as u64,
-        target: target.0,
-        white_space: white_space.0,
-        areas: given_to(areas),
+    match proposal::propose(map, current, draw) {
+        Err(refusal) => FlatProposal {
+            refusal: u32::from(refusal),
+            ..FlatProposal::NONE
+        },
+        Ok(p) => FlatProposal {
+            refusal: 0,
+            kind: u32::from(p.kind),
+            tied: p.tied as u64,
+            count: p.count as u64,
+            target: p.target.0,
+            white_space: p.white_space.0,
+            areas: given_to(p.areas),
+        },
     }
 }
 
-// What a proposal gives each area, one area a turn.
+// What a proposal gives each area.
 fn given_to(areas: [AreaAnswer; 32]) -> [Given; 32]
     ensures { result ≡ each (λ a. flat_given (area_means a)) areas }
 {
-    let mut given = [Given::NONE; 32];
-    let mut i = 0;
-    while i < 32 {
-        let a = areas[i];
-        given[i] = Given::of(a);
-        i += 1;
-    }
-    given
-}
-
-impl Given {
-    // What stands at the entries past the areas of a map.
-    const NONE: Given = Given {
-        number: 0,
-        gets: 0,
-        blocks: 0,
-        share: 0,
-        cells: 0,
-    };
-
-    // What a proposal gives an area.
-    fn of(a: AreaAnswer) -> Self
-        ensures { result ≡ flat_given (area_means a) }
-    {
-        let gets = a.gets;
-        let sum = a.cells;
-        Given {
-            number: a.number as u32,
-            gets: gets_number(gets),
-            blocks: a.blocks,
-            share: gets_share(gets),
-            cells: sum.0,
-        }
-    }
-}
-
-// The number of what an area gets.
-fn gets_number(gets: Gets) -> u32
-    ensures { result ≡ gets_number (gets_means gets) }
-{
-    match gets {
-        Gets::Nothing => 0,
-        Gets::Whole => 1,
-        Gets::RoundedUp => 2,
-        Gets::Share(_) => 3,
-    }
-}
-
-// The share that an area gets, 0 where it gets none.
-fn gets_share(gets: Gets) -> u64
-    ensures { result ≡ gets_amount (gets_means gets) }
-{
-    match gets {
-        Gets::Nothing => 0,
-        Gets::Whole => 0,
-        Gets::RoundedUp => 0,
-        Gets::Share(share) => share.0,
-    }
+    areas.map(Given::from)
 }
 
 // The footprint of the partial area of the proposal with a draw.
@@ -321,40 +321,29 @@ pub fn codwalet_footprint(
 }
 
 // The answer of a footprint in numbers.
-fn outline_of(answer: FootprintAnswer) -> Outline
+fn outline_of(answer: Result<u16, FootprintRefusal>) -> Outline
     ensures { outline_means result ≡ means answer }
 {
-    Outline {
-        refusal: answer.refusal(),
-        area: area_made(answer),
-        needed: entries_needed(answer),
+    match answer {
+        Ok(number) => Outline {
+            refusal: 0,
+            area: u32::from(number),
+            needed: 0,
+        },
+        Err(refusal) => Outline {
+            refusal: u32::from(refusal),
+            area: 0,
+            needed: entries_needed(refusal),
+        },
     }
 }
 
-// The number of the area whose footprint is made, 0 where none is.
-fn area_made(answer: FootprintAnswer) -> u32
-    ensures { result ≡ (means answer).area }
+// The entries that the table must have at refusal 8, 0 at another refusal.
+fn entries_needed(refusal: FootprintRefusal) -> u64
+    ensures { result ≡ needed_by refusal }
 {
-    match answer {
-        FootprintAnswer::Made(number) => number as u32,
-        FootprintAnswer::Refused(_) => 0,
-        FootprintAnswer::TooMany => 0,
-        FootprintAnswer::NotOnePart => 0,
-        FootprintAnswer::MaskShort => 0,
-        FootprintAnswer::TableShort(_) => 0,
-    }
-}
-
-// The entries that the table must have at refusal 8, 0 where there is another answer.
-fn entries_needed(answer: FootprintAnswer) -> u64
-    ensures { result ≡ (means answer).needed }
-{
-    match answer {
-        FootprintAnswer::TableShort(needed) => needed as u64,
-        FootprintAnswer::Refused(_) => 0,
-        FootprintAnswer::TooMany => 0,
-        FootprintAnswer::NotOnePart => 0,
-        FootprintAnswer::MaskShort => 0,
-        FootprintAnswer::Made(_) => 0,
+    match refusal {
+        FootprintRefusal::TableShort(needed) => needed as u64,
+        _ => 0,
     }
 }

@@ -1,5 +1,6 @@
 // The static library of the C interface, declared in host/include/codwalet.h: each export calls the function of its name in `abi`, with
 // the same clauses.
+// Kept beside `abi`, whose functions are Rattle's: an export must be `extern "C"`, and no Rattle crate calls one.
 #![tactic(auto)]
 
 ghost use Rattle.std.specs.Prelude.{◌≡◌, length};

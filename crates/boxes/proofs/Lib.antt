@@ -1,3 +1,4 @@
 pub mod OrderLaws
 pub mod SignedLaws
 pub mod RowLaws
+pub mod BoxLaws

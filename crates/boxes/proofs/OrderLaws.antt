@@ -1,5 +1,5 @@
 -- Laws of the order of signed numbers, and of the least and the greatest of several. Assumes nothing.
-use Prim.Native.Nat.{ℕ, zero, suc, ◌+◌}
+use Prim.Native.Nat.{ℕ, zero, suc, ◌+◌, ◌<◌}
 use mathlib.Core.Path.{◌≡◌, refl, sym, ap, ◌∙◌}
 use mathlib.Core.Bool.{Bool, true, false, not, ◌&&◌, and-true, and_assoc}
 use native.Mathlib.Omega.{arith}
@@ -10,7 +10,11 @@ use lib.Signed.{le_z, lt_z}
 use borrow.Author.Tests.{leb-true, le-leb, lt-leb, ltb-true, ltb-false}
 use Rattle.lists.specs.Sums.{every_below}
 use Rattle.lists.proofs.Tests.{by-test, not-both}
-use Rattle.boxes.specs.Rows.{join_to, lower_z, higher_z, larger_n}
+use native.Mathlib.Nat.{max-eq_left, max-eq_right}
+use Rattle.std.proofs.Common.{max, inl, inr}
+use Rattle.std.proofs.lemmas.Bool.{cases_lt}
+use Rattle.std.specs.Int.{int_min, int_max}
+use Rattle.boxes.specs.Rows.{join_to}
 
 -- ---- the order
 
@@ -60,25 +64,29 @@ second-enough true q f = refl
 second-enough false true f = sym (f refl)
 second-enough false false f = refl
 
-pub lower-both : (z a b : ℤ) → le_z z (lower_z a b) ≡ le_z z a && le_z z b
-lower-both z a b = by-test (lt_z a b)
-    (λ t. rw t (first-enough (le_z z a) (le_z z b) (λ h. le-le z a b h (less-le a b t))))
-    (λ t. rw t (second-enough (le_z z a) (le_z z b) (λ h. le-le z b a h (not-less a b t))))
+pub lower-both : (z a b : ℤ) → le_z z (int_min a b) ≡ le_z z a && le_z z b
+lower-both z a b = by-test (lt_z b a)
+    (λ t. rw t (second-enough (le_z z a) (le_z z b) (λ h. le-le z b a h (less-le b a t))))
+    (λ t. rw t (first-enough (le_z z a) (le_z z b) (λ h. le-le z a b h (not-less b a t))))
 
-pub higher-both : (z a b : ℤ) → le_z (higher_z a b) z ≡ le_z a z && le_z b z
-higher-both z a b = by-test (lt_z a b)
-    (λ t. rw t (second-enough (le_z a z) (le_z b z) (le-le a b z (less-le a b t))))
-    (λ t. rw t (first-enough (le_z a z) (le_z b z) (le-le b a z (not-less a b t))))
+pub higher-both : (z a b : ℤ) → le_z (int_max a b) z ≡ le_z a z && le_z b z
+higher-both z a b = by-test (lt_z b a)
+    (λ t. rw t (first-enough (le_z a z) (le_z b z) (le-le b a z (less-le b a t))))
+    (λ t. rw t (second-enough (le_z a z) (le_z b z) (le-le a b z (not-less b a t))))
 
-pub higher-less : (z a b : ℤ) → lt_z (higher_z a b) z ≡ lt_z a z && lt_z b z
-higher-less z a b = by-test (lt_z a b)
-    (λ t. rw t (second-enough (lt_z a z) (lt_z b z) (le-less a b z (less-le a b t))))
-    (λ t. rw t (first-enough (lt_z a z) (lt_z b z) (le-less b a z (not-less a b t))))
+pub higher-less : (z a b : ℤ) → lt_z (int_max a b) z ≡ lt_z a z && lt_z b z
+higher-less z a b = by-test (lt_z b a)
+    (λ t. rw t (first-enough (lt_z a z) (lt_z b z) (le-less b a z (less-le b a t))))
+    (λ t. rw t (second-enough (lt_z a z) (lt_z b z) (le-less a b z (not-less b a t))))
 
-pub larger-both : (z a b : ℕ) → leb (larger_n a b) z ≡ leb a z && leb b z
-larger-both z a b = by-test (ltb a b)
-    (λ t. rw t (second-enough (leb a z) (leb b z) (λ h. le-leb a z (omega (arith, leb-true b z h, ltb-true a b t)))))
-    (λ t. rw t (first-enough (leb a z) (leb b z) (λ h. le-leb b z (omega (arith, leb-true a z h, ltb-false a b t)))))
+pub larger-both : (z a b : ℕ) → leb (max a b) z ≡ leb a z && leb b z
+larger-both z a b =
+    elim (cases_lt a b) [
+      | inl l ↦ ap (λ (m : ℕ). leb m z) (max-eq_right (omega (arith, l)))
+          ∙ second-enough (leb a z) (leb b z) (λ h. le-leb a z (omega (arith, leb-true b z h, l)))
+      | inr l ↦ ap (λ (m : ℕ). leb m z) (max-eq_left l)
+          ∙ first-enough (leb a z) (leb b z) (λ h. le-leb b z (omega (arith, leb-true a z h, l)))
+    ]
 
 -- ---- of several
 
@@ -92,6 +100,12 @@ module _ {A : Type 0} (join : A → A → A) (start : A) (f : ℕ → A) where
       both (join_to join start f n) (f n)
       ∙ ap (λ (b : Bool). b && test (f n)) (join-test test both n)
       ∙ and_assoc (test start) (every_below (λ k. test (f k)) n) (test (f n))
+
+  -- of values that are the same
+  pub join_same : (g : ℕ → A) (n : ℕ) → ((k : ℕ) → k < n → f k ≡ g k) → join_to join start f n ≡ join_to join start g n
+  unfolding join_to
+  join_same g zero h = refl
+  join_same g (suc n) h = λ i. join (join_same g n (λ k l. h k (omega arith)) i) (h n (omega arith) i)
 
   -- one more
   pub join-next : (n : ℕ) → join (join_to join start f n) (f n) ≡ join_to join start f (n + 1)

@@ -4,9 +4,10 @@ use mathlib.Core.Path.{◌≡◌, refl, sym, ap, ◌∙◌}
 use mathlib.Core.Bool.{Bool, true, false, not, ◌&&◌, ◌||◌}
 use mathlib.Core.List.{List}
 use native.Mathlib.Omega.{arith}
-use native.Mathlib.Nat.{mul-add, mul-le-mul_left, mul_left_comm, mul-one, mul-zero}
+use native.Mathlib.Nat.{mul-add, mul_left_comm, mul-one, mul-zero}
 use native.Mathlib.Numerals.{add-one}
 use lib.Dec.{leb, eqb}
+use mir.Val.{bool_byte}
 use lib.IntN.{ℤ, pos, neg_ℤ, negsuc}
 use lib.ListN.{get_or}
 use lib.Signed.{le_z, lt_z}
@@ -15,12 +16,15 @@ use Rattle.lists.specs.Sums.{flag, count, every_below, sum_below, sum_to}
 use Rattle.lists.proofs.Tests.{by-test, both, first_of, second-of}
 use Rattle.lists.proofs.BelowLaws.{every-below, every-both, sum-next, sum-add, sum_same, sum-most, sum_ones, sum-zero}
 use Rattle.units.specs.Coordinates.{within_z, is_latitude, is_longitude}
-use Rattle.boxes.specs.Rows.{row_fine, join_to, lower_z, higher_z, larger_n, SpanOf, FewPeople, cell_under, column_under, UnderBox}
-use Rattle.boxes.specs.declared.Span.{Span}
-use Rattle.boxes.specs.declared.Under.{Under}
-use Rattle.boxes.proofs.OrderLaws.{turned-z, lower-both, higher-both, higher-less, larger-both, join-test}
+use Rattle.std.proofs.Common.{max, length, take, sum, get_or-take, length-take-le}
+use Rattle.std.proofs.lemmas.List.Sums.{sum_by_more}
+use Rattle.std.specs.Int.{int_min, int_max}
+use Rattle.boxes.specs.Rows.{row_fine, join_to, SpanOf, FewPeople, cell_under, test_at, UnderBox}
+use Rattle.boxes.specs.declared.rows.Span.{Span}
+use Rattle.boxes.specs.declared.rows.Under.{Under}
+use Rattle.boxes.proofs.OrderLaws.{turned-z, lower-both, higher-both, higher-less, larger-both, join-test, join_same}
 
-count_next : (test : ℕ → Bool) (i : ℕ) → count test i + flag (test i) ≡ count test (i + 1)
+pub count_next : (test : ℕ → Bool) (i : ℕ) → count test i + flag (test i) ≡ count test (i + 1)
 unfolding count
 count_next test i = ap (count test) (sym (add-one i))
 
@@ -31,15 +35,15 @@ module _ (values : List ℤ) (n : ℕ) (s : Span) (h : SpanOf values n s) where
   value k = get_or values k (pos 0)
 
   least-test : (z : ℤ) → le_z z s.least ≡ le_z z (pos 2_147_483_647) && every_below (λ k. le_z z (value k)) n
-  least-test z = ap (le_z z) h.least ∙ join-test lower_z (pos 2_147_483_647) value (le_z z) (lower-both z) n
+  least-test z = ap (le_z z) h.least ∙ join-test int_min (pos 2_147_483_647) value (le_z z) (lower-both z) n
 
   greatest-test : (z : ℤ) → le_z s.greatest z ≡ le_z (negsuc 2_147_483_647) z && every_below (λ k. le_z (value k) z) n
   greatest-test z =
-      ap (λ (y : ℤ). le_z y z) h.greatest ∙ join-test higher_z (negsuc 2_147_483_647) value (λ y. le_z y z) (higher-both z) n
+      ap (λ (y : ℤ). le_z y z) h.greatest ∙ join-test int_max (negsuc 2_147_483_647) value (λ y. le_z y z) (higher-both z) n
 
   greatest-less : (z : ℤ) → lt_z s.greatest z ≡ lt_z (negsuc 2_147_483_647) z && every_below (λ k. lt_z (value k) z) n
   greatest-less z =
-      ap (λ (y : ℤ). lt_z y z) h.greatest ∙ join-test higher_z (negsuc 2_147_483_647) value (λ y. lt_z y z) (higher-less z) n
+      ap (λ (y : ℤ). lt_z y z) h.greatest ∙ join-test int_max (negsuc 2_147_483_647) value (λ y. lt_z y z) (higher-less z) n
 
   -- from the least on, and below what the greatest is below
   from-least : (z : ℤ) → le_z z s.least ≡ true → (k : ℕ) → k < n → le_z z (value k) ≡ true
@@ -67,6 +71,35 @@ module _ (values : List ℤ) (n : ℕ) (s : Span) (h : SpanOf values n s) where
       && (greatest-test high ∙ ap (λ (t : Bool). t && every_below (λ k. le_z (value k) high) n) b) i)
       ∙ sym (every-both (λ k. le_z low (value k)) (λ k. le_z (value k) high) n)
 
+-- the span of the first n of some coordinates
+pub span_taken : (values : List ℤ) (n : ℕ) {s : Span} → n ≤ length values → SpanOf (take n values) (length (take n values)) s
+    → SpanOf values n s
+span_taken values n l h =
+    let same : (k : ℕ) → k < n → get_or (take n values) k (pos 0) ≡ get_or values k (pos 0) = λ k b. get_or-take n values k (pos 0) b in
+    let all = length-take-le n values l in
+    record {
+      least = rw all at h.least ∙ join_same int_min (pos 2_147_483_647) (λ k. get_or (take n values) k (pos 0)) (value values) n same;
+      greatest = rw all at h.greatest
+          ∙ join_same int_max (negsuc 2_147_483_647) (λ k. get_or (take n values) k (pos 0)) (value values) n same;
+    }
+  where
+    value : List ℤ → ℕ → ℤ
+    value xs k = get_or xs k (pos 0)
+
+-- the most of the first n of some counts, and their sum
+pub most_taken : (ps : List ℕ) (n : ℕ) {m : ℕ} → n ≤ length ps → m ≡ join_to max 0 (λ k. get_or (take n ps) k 0) (length (take n ps))
+    → m ≡ join_to max 0 (λ k. get_or ps k 0) n
+most_taken ps n l h =
+    rw (length-take-le n ps l) at h
+    ∙ join_same max 0 (λ k. get_or (take n ps) k 0) (λ k. get_or ps k 0) n (λ k b. get_or-take n ps k 0 b)
+
+pub sum_taken : (ps : List ℕ) (n : ℕ) → n ≤ length ps → sum (take n ps) ≡ sum_to (λ k. get_or ps k 0) n
+unfolding sum_below
+sum_taken ps zero l = refl
+sum_taken ps (suc n) l =
+    ap (λ (m : ℕ). sum (take m ps)) (sym (add-one n)) ∙ sum_by_more (λ (p : ℕ). p) ps n 0 (omega arith)
+    ∙ ap (λ (s : ℕ). s + get_or ps n 0) (sum_taken ps n (omega arith))
+
 -- ---- a row within the map's limits
 
 -- a cell within them
@@ -86,13 +119,13 @@ module _ (ps : List ℕ) (latitudes longitudes : List ℤ) (n : ℕ) where
   longitude_at k = is_longitude (get_or longitudes k (pos 0))
 
   -- the most people and the spans tell whether every cell is
-  pub row_fine-spans : (m : ℕ) (la lo : Span) → m ≡ join_to larger_n 0 (λ k. get_or ps k 0) n → SpanOf latitudes n la → SpanOf longitudes n lo
+  pub row_fine-spans : (m : ℕ) (la lo : Span) → m ≡ join_to max 0 (λ k. get_or ps k 0) n → SpanOf latitudes n la → SpanOf longitudes n lo
       → leb m 1_000_000 && (le_z (neg_ℤ (pos 32_400_000)) la.least && le_z la.greatest (pos 32_400_000))
       && (le_z (neg_ℤ (pos 64_800_000)) lo.least && le_z lo.greatest (pos 64_800_000))
       ≡ row_fine ps latitudes longitudes n
   row_fine-spans m la lo e a b =
       (λ i. (ap (λ (p : ℕ). leb p 1_000_000) e
-      ∙ join-test larger_n 0 (λ k. get_or ps k 0) (λ p. leb p 1_000_000) (larger-both 1_000_000) n) i
+      ∙ join-test max 0 (λ k. get_or ps k 0) (λ p. leb p 1_000_000) (larger-both 1_000_000) n) i
       && span-within latitudes n la a (neg_ℤ (pos 32_400_000)) (pos 32_400_000) refl refl i
       && span-within longitudes n lo b (neg_ℤ (pos 64_800_000)) (pos 64_800_000) refl refl i)
       ∙ ap (λ (t : Bool). t && every_below longitude_at n) (sym (every-both few_at latitude_at n))
@@ -113,6 +146,10 @@ module _ (ps : List ℕ) (latitudes longitudes : List ℤ) (n : ℕ) where
   pub fine-few : row_fine ps latitudes longitudes n ≡ true → n ≤ 256 → FewPeople ps n
   fine-few t l = record { few = l; each = λ k b. (fine-within t k b).people }
 
+  -- so the people of such a row are few
+  pub few-sum : FewPeople ps n → sum_to (λ k. get_or ps k 0) n ≤ 256_000_000
+  few-sum f = let few = f.few in omega (arith, sum-most (λ k. get_or ps k 0) (λ _. true) 1_000_000 n f.each)
+
 -- ---- a box apart from a row, one that spans it from south to north, and one around it
 
 -- of four tests one fails
@@ -127,6 +164,10 @@ apart-four false true c d true true true true f g h k t = g refl
 apart-four false false true d true true true true f g h k t = h refl
 apart-four false false false true true true true true f g h k t = k refl
 apart-four false false false false true true true true f g h k t = sym t
+
+-- the test of a box that spans a row from south to north
+abbrev pub between : (west east x y : ℤ) → Bool
+between west east x y = le_z west y && lt_z y east
 
 module _ (latitudes longitudes : List ℤ) (n : ℕ) (la lo : Span) (a : SpanOf latitudes n la) (b : SpanOf longitudes n lo)
     (south north west east : ℤ) where
@@ -147,7 +188,7 @@ module _ (latitudes longitudes : List ℤ) (n : ℕ) (la lo : Span) (a : SpanOf 
 
   -- where it spans the row from south to north, the longitudes decide
   pub columns-decide : le_z south la.least && lt_z la.greatest north ≡ true
-      → (k : ℕ) → k < n → column_under west east longitudes k ≡ under k
+      → (k : ℕ) → k < n → test_at (between west east) latitudes longitudes k ≡ under k
   columns-decide t k l =
       let y = get_or longitudes k (pos 0) in
       sym (ap (λ (b : Bool). b && le_z west y && lt_z y east) (between-all latitudes n la a south north t k l))
@@ -162,46 +203,44 @@ module _ (latitudes longitudes : List ℤ) (n : ℕ) (la lo : Span) (a : SpanOf 
 abbrev held : List ℕ → ℕ → ℕ
 held ps k = get_or ps k 0
 
--- at cell k, the people and the cells before it that pass a test are summed
-pub record UnderTo (ps : List ℕ) (test : ℕ → Bool) (n k people cells : ℕ) : Type 0 where
-  pub low : k ≤ n
-  pub few-people : people ≤ 1_000_000 * k
-  pub few-cells : cells ≤ k
+-- what a test gives as a number
+pub byte_flag : (b : Bool) → bool_byte b ≡ flag b
+byte_flag true = refl
+byte_flag false = refl
+
+pub byte_most : {n : ℕ} (b : Bool) → n ≡ bool_byte b → n ≤ 1
+byte_most true h = omega (arith, h)
+byte_most false h = omega (arith, h)
+
+-- the people and the cells that pass a test are summed, of the cells before cell k
+pub record UnderTo (ps : List ℕ) (test : ℕ → Bool) (k people cells : ℕ) : Type 0 where
   pub people-to : people ≡ sum_to (λ j. held ps j * flag (test j)) k
   pub cells-to : cells ≡ sum_to (λ j. flag (test j)) k
 
-module _ {ps : List ℕ} {n : ℕ} {test : ℕ → Bool} where
-  pub to_start : UnderTo ps test n 0 0 0
+module _ {ps : List ℕ} {test : ℕ → Bool} where
+  pub to_start : UnderTo ps test 0 0 0
   unfolding sum_below
-  to_start = record { low = omega arith; few-people = omega arith; few-cells = omega arith; people-to = refl; cells-to = refl }
+  to_start = record { people-to = refl; cells-to = refl }
 
   -- one cell more
-  pub to-next : {k people cells here : ℕ} → UnderTo ps test n k people cells → FewPeople ps n → k < n → here ≤ 1
-      → here ≡ flag (test k) → UnderTo ps test n (k + 1) (people + held ps k * here) (cells + here)
-  to-next {k} h f l once e =
-      let few = f.each k l in
-      let most = mul-le-mul_left (held ps k) once in
-      record {
-        low = omega arith;
-        few-people = omega arith;
-        few-cells = omega arith;
-        people-to = (λ i. h.people-to i + held ps k * e i) ∙ sum-next (λ j. held ps j * flag (test j)) k;
-        cells-to = (λ i. h.cells-to i + e i) ∙ sum-next (λ j. flag (test j)) k;
-      }
+  pub to-next : {k people cells here : ℕ} → UnderTo ps test k people cells → here ≡ flag (test k)
+      → UnderTo ps test (k + 1) (people + held ps k * here) (cells + here)
+  to-next {k} h e = record {
+    people-to = (λ i. h.people-to i + held ps k * e i) ∙ sum-next (λ j. held ps j * flag (test j)) k;
+    cells-to = (λ i. h.cells-to i + e i) ∙ sum-next (λ j. flag (test j)) k;
+  }
 
   -- all cells
-  pub to_end : {k people cells : ℕ} → UnderTo ps test n k people cells → FewPeople ps n → n ≤ k
+  pub to_end : {n people cells : ℕ} → UnderTo ps test n people cells → people ≤ 1_000_000 * n → cells ≤ n → n ≤ 256
       → UnderBox ps test n (record { people = people; cells = cells })
-  to_end {k} h f l =
-      let few = f.few in
-      let all : k ≡ n = omega arith in
-      record {
-        people = h.people-to ∙ ap (sum_to (λ j. held ps j * flag (test j))) all;
-        cells = h.cells-to ∙ ap (sum_to (λ j. flag (test j))) all;
-        few-people = omega arith;
-        few-cells = omega arith;
-      }
+  to_end h p c l = record {
+    people = h.people-to;
+    cells = h.cells-to;
+    few-people = omega arith;
+    few-cells = omega arith;
+  }
 
+module _ {ps : List ℕ} {n : ℕ} {test : ℕ → Bool} where
   -- two tests that every cell passes or fails alike
   pub under_same : {other : ℕ → Bool} {u : Under} → ((k : ℕ) → k < n → test k ≡ other k) → UnderBox ps test n u → UnderBox ps other n u
   under_same {other} s h = record {

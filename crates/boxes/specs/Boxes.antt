@@ -1,12 +1,17 @@
 -- The boxes that cover a point. Assumes nothing.
-use Rattle.std.specs.Prelude.{ℕ, ◌+◌, ◌*◌, ◌/◌, ◌≤◌, ◌<◌, List, Bool, ◌&&◌, ℤ, pos, length, get_or}
+use Rattle.std.specs.Prelude.{ℕ, ◌+◌, ◌*◌, ◌/◌, ◌≤◌, ◌<◌, List, Bool, ◌&&◌, ℤ, pos, length, get_or, take}
 use Rattle.std.specs.Int.Signed.{le_z, lt_z}
 use Rattle.lists.specs.Sums.{flag, count, sum_to}
+use Rattle.boxes.specs.declared.Boxes.{Boxes}
 
 -- "Coverage and blocks": south ≤ latitude < north and west ≤ longitude < east
 abbrev pub box_covers : (south north west east latitude longitude : ℤ) → Bool
 box_covers south north west east latitude longitude =
     le_z south latitude && lt_z latitude north && le_z west longitude && lt_z longitude east
+
+-- the edges of boxes: their souths, then the norths, the wests and the easts
+abbrev pub edges_of : Boxes → List ℤ
+edges_of boxes = take (4 * boxes.count) boxes.edges
 
 -- box i of n covers a point: the edges are the n souths, then the n norths, the n wests and the n easts
 abbrev pub box_at : List ℤ → (latitude longitude : ℤ) → (n i : ℕ) → Bool

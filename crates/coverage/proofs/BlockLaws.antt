@@ -36,34 +36,28 @@ limits-in ls s areas e q = all_map (AreaHolds s) Limits (holding_of ls) (limits_
 -- ---- the limits as a test
 
 module _ (h : Holding) where
-  abbrev heavy_test : Bool
-  heavy_test = leb 1 h.weight
-
   abbrev weight_test : Bool
-  weight_test = heavy_test && leb h.weight 65535
+  weight_test = leb 1 h.weight && leb h.weight 65535
 
-  abbrev peopled_test : Bool
-  peopled_test = leb 1 h.population.0
-
-  abbrev small_test : Bool
-  small_test = leb h.population.0 40000000
+  abbrev people_test : Bool
+  people_test = leb 1 h.population.0 && leb h.population.0 40000000
 
   pub limits-pass : Limits h → in_limits h ≡ true
   unfolding in_limits
   limits-pass w =
-      let weight : weight_test ≡ true = both (le-leb 1 h.weight w.heavy) (le-leb h.weight 65535 w.light) in
-      both (both weight (le-leb 1 h.population.0 w.peopled)) (le-leb h.population.0 40000000 w.small)
+      both (both (le-leb 1 h.weight w.heavy) (le-leb h.weight 65535 w.light))
+      (both (le-leb 1 h.population.0 w.peopled) (le-leb h.population.0 40000000 w.small))
 
   pub limits-told : in_limits h ≡ true → Limits h
   unfolding in_limits
   limits-told e =
-      let three = first_of (weight_test && peopled_test) small_test e in
-      let weight = first_of weight_test peopled_test three in
+      let weight = first_of weight_test people_test e in
+      let people = second-of weight_test people_test e in
       record {
-        heavy = leb-true 1 h.weight (first_of heavy_test (leb h.weight 65535) weight);
-        light = leb-true h.weight 65535 (second-of heavy_test (leb h.weight 65535) weight);
-        peopled = leb-true 1 h.population.0 (second-of weight_test peopled_test three);
-        small = leb-true h.population.0 40000000 (second-of (weight_test && peopled_test) small_test e);
+        heavy = leb-true 1 h.weight (first_of (leb 1 h.weight) (leb h.weight 65535) weight);
+        light = leb-true h.weight 65535 (second-of (leb 1 h.weight) (leb h.weight 65535) weight);
+        peopled = leb-true 1 h.population.0 (first_of (leb 1 h.population.0) (leb h.population.0 40000000) people);
+        small = leb-true h.population.0 40000000 (second-of (leb 1 h.population.0) (leb h.population.0 40000000) people);
       }
 
 -- within the limits the blocks are those of the definition

@@ -7,7 +7,7 @@ use native.Mathlib.Omega.{arith}
 use native.Mathlib.Nat.{zero-add, add-zero, mul-one, one-mul, mul-zero, mul-add, mul_left_comm, mul_comm, mul-le-mul, mul-div_right}
 use borrow.Author.Tests.{le-leb, le-ltb}
 use lib.IntN.{ℤ, pos, negsuc}
-use lib.ListN.{length, get_or, take}
+use lib.ListN.{length, get_or}
 use lib.Seq.{length-take-le, get_or-take}
 use lib.Dec.{ltb}
 use Rattle.lists.specs.Sums.{total, any, flag, count, sum_to}
@@ -19,7 +19,8 @@ use Rattle.map.specs.declared.Cell.{Cell}
 use Rattle.map.specs.declared.parts.Counts.{Counts}
 use Rattle.map.specs.declared.parts.CountedArea.{CountedArea}
 use Rattle.map.specs.Format.{Place, gap, cell, Area, people_at, population}
-use Rattle.boxes.specs.Boxes.{box_covers, box_at, boxes_over, width_over, Narrow}
+use Rattle.boxes.specs.declared.Boxes.{Boxes}
+use Rattle.boxes.specs.Boxes.{edges_of, box_covers, box_at, boxes_over, width_over, Narrow}
 use Rattle.map.specs.Counting.{cells_at, boxed_mhz_pops, boxed_cells, grid_counts, Small}
 use Rattle.map.specs.Answers.{counted_area}
 use Rattle.map.specs.Accepted.{AreaHolds}
@@ -30,7 +31,6 @@ use Rattle.register.specs.declared.Ground.TheVariants as ground
 use Rattle.register.specs.declared.Licence.{Licence}
 use Rattle.register.specs.declared.FlatLicence.{FlatLicence}
 use Rattle.register.specs.declared.Naming.{Naming}
-use Rattle.register.specs.declared.Boxes.{Boxes}
 use Rattle.register.specs.Licences.{in_force}
 use Rattle.register.specs.Grounds.{is_area, NamingDone, is_box, no_box, box_from, BoxesDone}
 use Rattle.register.proofs.GroundLaws.{boxes-total, boxes-widths}
@@ -138,7 +138,7 @@ module _ {ps : List FlatLicence} {number : ℕ} {n : Naming} (d : NamingDone num
 
 -- the edges that the walk takes
 
-pub edges-size : {ps : List FlatLicence} {b : Boxes} → BoxesDone ps b → length (take (4 * b.count) b.edges) ≡ 4 * b.count
+pub edges-size : {ps : List FlatLicence} {b : Boxes} → BoxesDone ps b → length (edges_of b) ≡ 4 * b.count
 edges-size {ps} {b} d =
     let few = d.counts.few in
     let size = d.edges.size in
@@ -151,7 +151,7 @@ module _ {ps : List FlatLicence} {b : Boxes} (d : BoxesDone ps b) (number : ℕ)
   ls = in_force ps
 
   abbrev edges : List ℤ
-  edges = take (4 * b.count) b.edges
+  edges = edges_of b
 
   quarter : length edges / 4 ≡ b.count
   quarter = ap (λ (n : ℕ). n / 4) (edges-size d) ∙ mul-div_right b.count (omega arith)
@@ -292,21 +292,18 @@ sums-exact always c few h =
     }
 
 module _ {ps : List FlatLicence} {b : Boxes} (d : BoxesDone ps b) {s : List ℕ} {a : Area} (h : AreaHolds s a) where
-  abbrev edges_of : List ℤ
-  edges_of = take (4 * b.count) b.edges
-
   pub sums-are : {always : Naming} → always ≡ naming_of (in_force ps) a.head.number → FewNaming always
-      → sums_by always (grid_counts edges_of b.widths a.grid) ≡ coverage_sums (in_force ps) a
+      → sums_by always (grid_counts (edges_of b) b.widths a.grid) ≡ coverage_sums (in_force ps) a
   sums-are {always} named few =
-      sums-exact always (grid_counts edges_of b.widths a.grid) few
-      (area_small edges_of b.widths (omega (arith, edges-size d, d.counts.few)) (narrow d a.head.number) h)
+      sums-exact always (grid_counts (edges_of b) b.widths a.grid) few
+      (area_small (edges_of b) b.widths (omega (arith, edges-size d, d.counts.few)) (narrow d a.head.number) h)
       ∙ (λ i. record {
         mhz_pops = record { 0 = mhz-pops-are d a.head.number named a.grid i };
         cells = record { 0 = cells_are d a.head.number named a.grid i };
       })
 
   -- an area that is handed out, with its c and its sum of cells
-  pub holding-handed : {x : CountedArea} {r : Holding} → x ≡ counted_area edges_of b.widths a → HoldingDone (in_force ps) x r
+  pub holding-handed : {x : CountedArea} {r : Holding} → x ≡ counted_area (edges_of b) b.widths a → HoldingDone (in_force ps) x r
       → r ≡ holding_of (in_force ps) a
   holding-handed {x} {r} e q =
       let ls = in_force ps in

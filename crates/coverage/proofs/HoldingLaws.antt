@@ -11,12 +11,10 @@ use lib.ListN.{length, take, drop, set, replicate, length-append, length-map, le
 use lib.Seq.{append_snoc, set_at, take_at, drop_at}
 use Rattle.map.specs.Reading.{Read, bad, good, bind, map_read}
 use Rattle.map.specs.Format.{Area, read_area, read_areas, read_rest}
-use Rattle.map.specs.Answers.{fault_number, summary, counted_area}
+use Rattle.map.specs.Answers.{summary, counted_area}
 use Rattle.map.specs.Accepted.{AreaHolds}
 use Rattle.map.specs.declared.Area as handed
 use Rattle.map.specs.declared.parts.CountedArea.{CountedArea}
-use Rattle.map.specs.declared.Fault.{Fault}
-use Rattle.map.specs.declared.Checked.TheVariants as checked
 use Rattle.map.proofs.Onward.{Gives}
 use Rattle.map.proofs.Accepted.{AreaGiven, gives-area}
 use Rattle.map.proofs.LoopLaws.{sub-step, sub-end}
@@ -25,8 +23,8 @@ use Rattle.register.specs.declared.Licence.{Licence}
 use Rattle.coverage.specs.declared.Holding.{Holding}
 use Rattle.coverage.specs.declared.Holdings.{Holdings}
 use Rattle.coverage.specs.Cover.{holding_of}
-use Rattle.coverage.specs.Answers.{no_holding, no_area, HoldingsDone}
-use Rattle.coverage.specs.Limits.{no_holdings}
+use Rattle.coverage.specs.Answers.{no_holding, no_area}
+use Rattle.coverage.specs.Holdings.{HoldingsAre}
 
 -- ---- an area that was read, in a map that may yet be refused
 
@@ -149,15 +147,15 @@ module _ (s : List ℕ) (ls : List Licence) where
 
     -- a fault of area k refuses the map
     pub gather-stops : (edges : List ℤ) (widths : List ℕ) {x : ℕ} → k < n
-        → bad x ≡ map_read (counted_area edges widths) (read_area s before position) → bad x ≡ read_rest s n first
+        → bad x ≡ map_read (counted_area edges widths) (read_area s before position) → read_rest s n first ≡ bad x
     unfolding read_rest read_areas
     gather-stops edges widths h q =
         let fault = map-bad (counted_area edges widths) (read_area s before position) q in
-        sym (ap (λ (r : Read (List Area)). bind r (λ l e. cond (eqb e (length s)) (good l e) (bad 3)))
+        ap (λ (r : Read (List Area)). bind r (λ l e. cond (eqb e (length s)) (good l e) (bad 3)))
         (w.left
         ∙ ap (λ (m : ℕ). after w.done (read_areas s m before position)) (sub-step n k h)
         ∙ ap (λ (y : Read Area).
-        after w.done (bind y (λ y m. bind (read_areas s (n - (k + 1)) y.head.number m) (λ l e. good (y ∷ l) e)))) (sym fault)))
+        after w.done (bind y (λ y m. bind (read_areas s (n - (k + 1)) y.head.number m) (λ l e. good (y ∷ l) e)))) (sym fault))
 
     -- all areas are done
     gather-all : n ≤ k → read_rest s n first ≡ cond (eqb position (length s)) (good w.done position) (bad 3)
@@ -169,44 +167,29 @@ module _ (s : List ℕ) (ls : List Licence) where
         ∙ ap (λ (l : List Area). good l position) (append-nil w.done))
 
     -- 3: bytes after the last area
-    pub gather-extra : n ≤ k → (position ≡ length s → ⊥) → bad 3 ≡ read_rest s n first
-    gather-extra h d = sym (gather-all h ∙ ap (λ t. cond t (good w.done position) (bad 3)) (ne_eqb position (length s) d))
+    pub gather-extra : n ≤ k → (position ≡ length s → ⊥) → read_rest s n first ≡ bad 3
+    gather-extra h d = gather-all h ∙ ap (λ t. cond t (good w.done position) (bad 3)) (ne_eqb position (length s) d)
 
-    pub gather-ends : n ≤ k → n ≤ 32 → position ≡ length s
-        → HoldingsDone ls (read_rest s n first) (record { checked = checked.Accepted; count = n; areas = xs; stands = ys })
-    gather-ends h few d =
-        let all : k ≡ n = omega (arith, w.inside) in
+    pub gather-ends : {r : Holdings} → n ≤ k → n ≤ 32 → position ≡ length s → r.count ≡ n → r.areas ≡ xs → r.stands ≡ ys
+        → HoldingsAre ls (read_rest s n first) r
+    gather-ends {r} h few d en ex ey =
+        let all : k ≡ r.count = omega (arith, w.inside) in
         let size = w.size ∙ all in
-        let entries = subst (λ m. Written (holding_of ls) no_holding w.done m xs) all w.entries in
-        let standing = subst (λ m. Written summary no_area w.done m ys) all w.standing in
-        let read = gather-all h ∙ ap (λ t. cond t (good w.done position) (bad 3)) (eq-eqb position (length s) d) in
-        subst (λ r. HoldingsDone ls r (record { checked = checked.Accepted; count = n; areas = xs; stands = ys })) (sym read)
-        (record {
-          answer = refl;
-          count = sym (length-map w.done (holding_of ls) ∙ size);
-          few = few;
-          entries = written-entries entries size few;
+        let entries = subst (λ m. Written (holding_of ls) no_holding w.done m r.areas) all
+        (subst (Written (holding_of ls) no_holding w.done k) (sym ex) w.entries) in
+        let standing = subst (λ m. Written summary no_area w.done m r.stands) all
+        (subst (Written summary no_area w.done k) (sym ey) w.standing) in
+        let small : r.count ≤ 32 = omega arith in
+        record {
+          areas = w.done;
+          next = position;
+          reads = gather-all h ∙ ap (λ t. cond t (good w.done position) (bad 3)) (eq-eqb position (length s) d);
+          count = sym size;
+          few = small;
+          entries = written-entries entries size small;
           each = written-each entries size;
           past = written-past entries size;
-          stand-entries = written-entries standing size few;
+          stand-entries = written-entries standing size small;
           stands = written-each standing size;
           stands-past = written-past standing size;
-        })
-
--- ---- a map that is refused
-
-pub none_done : (ls : List Licence) {read : Read (List Area)} {r : Holdings} (f : Fault) → bad (fault_number f) ≡ read → r ≡ no_holdings f
-    → HoldingsDone ls read r
-none_done ls {read} {r} f e q =
-    subst (λ x. HoldingsDone ls x r) e (subst (HoldingsDone ls (bad (fault_number f))) (sym q)
-    (record {
-      answer = refl;
-      count = refl;
-      few = omega arith;
-      entries = length-replicate 32 no_holding;
-      each = refl;
-      past = refl;
-      stand-entries = length-replicate 32 no_area;
-      stands = refl;
-      stands-past = refl;
-    }))
+        }

@@ -1,8 +1,8 @@
 -- The same licences in another order have the same coverage, blocks and holdings. Assumes nothing.
 use Prim.Native.Nat.{ℕ}
-use mathlib.Core.Path.{◌≡◌, refl, ap, fun_ext}
+use mathlib.Core.Path.{◌≡◌, ap, fun_ext}
 use mathlib.Core.List.{List, map}
-use Rattle.map.specs.Reading.{Read, bad, good}
+use Rattle.map.specs.Reading.{Read}
 use Rattle.map.specs.Format.{Area, population}
 use Rattle.register.specs.declared.Licence.{Licence}
 use Rattle.register.specs.Sums.{SameLicences}
@@ -11,7 +11,7 @@ use Rattle.coverage.specs.declared.AreaBlocks.{AreaBlocks}
 use Rattle.coverage.specs.Cover.{covered_by, cells_by, coverage_sums, holding_of, holdings_of}
 use Rattle.coverage.specs.Blocks.{blocks_of}
 use Rattle.coverage.specs.declared.CoverageSums.{CoverageSums}
-use Rattle.coverage.specs.Answers.{of_map, no_sums, coverage_at, no_blocks, blocks_at, holdings_in}
+use Rattle.coverage.specs.Answers.{of_map, no_sums, coverage_at, no_blocks, blocks_at}
 
 module _ (xs ys : List Licence) (same : SameLicences xs ys) where
   -- c and the sum of cells are two such sums
@@ -31,10 +31,6 @@ module _ (xs ys : List Licence) (same : SameLicences xs ys) where
 
   pub same-holdings : (areas : List Area) → holdings_of xs areas ≡ holdings_of ys areas
   same-holdings areas = ap (λ (f : Area → Holding). map f areas) (fun_ext same-holding)
-
-  pub same-holdings-in : (r : Read (List Area)) → holdings_in xs r ≡ holdings_in ys r
-  same-holdings-in (bad f) = refl
-  same-holdings-in (good areas e) = same-holdings areas
 
   pub same-coverage-at : (number : ℕ) (r : Read (List Area)) → coverage_at number xs r ≡ coverage_at number ys r
   unfolding coverage_at

@@ -2,6 +2,7 @@
 pub mod Cover
 pub mod Blocks
 pub mod Answers
+pub mod Holdings
 pub mod Limits
 pub mod FullWidth
 pub mod Examples

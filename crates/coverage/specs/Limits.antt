@@ -1,18 +1,14 @@
 -- Document 01, "Coverage and blocks": what the functions below its two ways in ask for and give. Assumes nothing.
-use Rattle.std.specs.Prelude.{ℕ, ◌+◌, ◌*◌, ◌≤◌, ◌<◌, ◌≡◌, Bool, ◌&&◌, List, leb, replicate}
+use Rattle.std.specs.Prelude.{ℕ, ◌+◌, ◌*◌, ◌≤◌, ◌<◌, ◌≡◌, Bool, ◌&&◌, List, leb}
 use Rattle.lists.specs.Sums.{total, flag}
 use Rattle.units.specs.Sums.{capped}
 use Rattle.map.specs.declared.parts.Counts.{Counts}
 use Rattle.map.specs.declared.parts.CountedArea.{CountedArea}
-use Rattle.map.specs.declared.Fault.{Fault}
-use Rattle.map.specs.declared.Checked.TheVariants as checked
 use Rattle.register.specs.declared.Licence.{Licence}
 use Rattle.register.specs.declared.Naming.{Naming}
 use Rattle.register.specs.Grounds.{names}
 use Rattle.coverage.specs.declared.CoverageSums.{CoverageSums}
 use Rattle.coverage.specs.declared.Holding.{Holding}
-use Rattle.coverage.specs.declared.Holdings.{Holdings}
-use Rattle.coverage.specs.Answers.{no_holding, no_area}
 
 -- "The map": "weight, u32, 1 to 65,535" and "population .. 1 to 40,000,000". Within them v and M are exact
 pub record Limits (h : Holding) : Type 0 where
@@ -23,7 +19,7 @@ pub record Limits (h : Holding) : Type 0 where
 
 -- the same limits as a test
 unfoldable pub in_limits : Holding → Bool
-in_limits h = leb 1 h.weight && leb h.weight 65535 && leb 1 h.population.0 && leb h.population.0 40000000
+in_limits h = (leb 1 h.weight && leb h.weight 65535) && (leb 1 h.population.0 && leb h.population.0 40000000)
 
 -- the licences that have the area with a number: how many there are, and their widths added
 abbrev pub naming_of : List Licence → (number : ℕ) → Naming
@@ -59,7 +55,3 @@ holding_by always a = record {
 pub record HoldingDone (licences : List Licence) (a : CountedArea) (r : Holding) : Type 0 where
   pub is : r ≡ holding_by (naming_of licences a.area.number) a
   pub few : FewNaming (naming_of licences a.area.number)
-
--- "Refused by the input", 1 to 5: no holdings, and the fixed value at every entry
-abbrev pub no_holdings : Fault → Holdings
-no_holdings f = record { checked = checked.Refused f; count = 0; areas = replicate 32 no_holding; stands = replicate 32 no_area }

@@ -9,6 +9,7 @@ use lib.Dec.{ltb, eqb}
 use lib.IntN.{ℤ}
 use lib.ListN.{length, get_or, drop, replicate, length-replicate}
 use borrow.Author.Tests.{lt-ltb, le-ltb, le-leb}
+use Rattle.std.specs.Prelude.{Result, Ok, Err}
 use Rattle.lists.specs.Sums.{any, flag, some_below}
 use Rattle.lists.specs.Filters.{up_to}
 use Rattle.lists.proofs.Tests.{by-test, not-both, both, told}
@@ -28,15 +29,14 @@ use Rattle.places.specs.Places.{place_of, is_cell, is_covered, grid_of, Lists, L
 use Rattle.places.proofs.PlaceLaws.{place-small, people-sum}
 use Rattle.ring.specs.Ring.{shown, fits}
 use Rattle.ring.proofs.RingLaws.{fits-of}
-use Rattle.rounds.specs.declared.Answer.{Answer}
-use Rattle.rounds.specs.declared.Answer.TheVariants as outlined
+use Rattle.rounds.specs.declared.MakeRefusal.TheVariants as outlined
 use Rattle.rounds.specs.Footprint.{PartArea, places, value, footprint, needed}
-use Rattle.rounds.specs.Promises.{area_of, in_limits, answer_by, Made, MakeDone}
+use Rattle.rounds.specs.Promises.{area_of, in_limits, Answer, answer_by, Made, MakeDone}
 use Rattle.rounds.specs.Demand.{Right}
 use Rattle.rounds.proofs.Same.{Alike, Agree, same-needed, same-footprint, same_whole}
 use Rattle.rounds.proofs.Theorems.{right}
-use Rattle.footprint.specs.declared.FootprintAnswer.{FootprintAnswer}
-use Rattle.footprint.specs.declared.FootprintAnswer.TheVariants as answered
+use Rattle.footprint.specs.declared.FootprintRefusal.{FootprintRefusal}
+use Rattle.footprint.specs.declared.FootprintRefusal.TheVariants as answered
 use Rattle.footprint.specs.Footprint.{part_area, covered_at, covered_cells, Footprint, short, made, footprint_of}
 use Rattle.footprint.specs.Promises.{reply, FootprintDone}
 use Rattle.footprint.specs.Code.{Buffers, Comes, Fits, told_by}
@@ -219,23 +219,23 @@ module _ {s : List ℕ} {a : Area} (h : AreaHolds s a) (licences : List Licence)
               front-is front b.mask b.after (omega arith) size (λ i k. inside i (omega arith)) (λ i k. byte_past i (omega arith))
               ∙ ap (λ (k : ℕ). front ++ drop k b.mask) e
 
-          abbrev Given : Footprint → FootprintAnswer → Type 0
+          abbrev Given : Footprint → Result ℕ FootprintRefusal → Type 0
           Given x reply = FootprintDone x reply b.mask b.after b.table b.entries
 
-          comes-short : ltb (length b.table) entries_needed ≡ true → Given o (answered.TableShort entries_needed)
+          comes-short : ltb (length b.table) entries_needed ≡ true → Given o (Err (answered.TableShort entries_needed))
           comes-short t =
               let lacks = ap (ltb (length b.table)) needs ∙ t in
-              subst (λ (x : Footprint). Given x (answered.TableShort entries_needed)) (sym (is-short t)) (record {
+              subst (λ (x : Footprint). Given x (Err (answered.TableShort entries_needed))) (sym (is-short t)) (record {
                 answer = refl;
                 bytes = area-bytes (replicate n 0) (length-replicate n 0) (λ i k. byte-in true t i k ∙ sym (zeros-at n i));
                 size = entries;
                 unused = drop-same 0 b.entries b.table entries (λ i k. d.unused i (λ z. not-both lacks z));
               })
 
-          comes-made : ltb (length b.table) entries_needed ≡ false → Given o (answered.Made a.head.number)
+          comes-made : ltb (length b.table) entries_needed ≡ false → Given o (Ok a.head.number)
           comes-made t =
               let cells : ℕ → ℕ = λ i. flag (footprint (part_area a) share (covered_cells licences a) i) in
-              subst (λ (x : Footprint). Given x (answered.Made a.head.number)) (sym (is_made t)) (record {
+              subst (λ (x : Footprint). Given x (Ok a.head.number)) (sym (is_made t)) (record {
                 answer = refl;
                 bytes = area-bytes (map cells (up_to n)) (each_below cells n) (λ i k. byte-in false t i k ∙ sym (each_at cells n i k));
                 size = entries;
@@ -245,9 +245,9 @@ module _ {s : List ℕ} {a : Area} (h : AreaHolds s a) (licences : List Licence)
 
           -- the answer that the rounds give, as the footprint's
           said : (t : Bool) → ltb (length b.table) entries_needed ≡ t
-              → told_by a.head.number (cond t (outlined.Short entries_needed) outlined.Done) ≡ told_by a.head.number r
+              → told_by a.head.number (cond t (Err (outlined.TableShort entries_needed)) (Ok tt)) ≡ told_by a.head.number r
           said t e = ap (told_by a.head.number)
-              (ap (λ (x : Bool). cond x (outlined.Short entries_needed) outlined.Done) (sym e)
+              (ap (λ (x : Bool). cond x (Err (outlined.TableShort entries_needed)) (Ok tt)) (sym e)
               ∙ sym (d.answer ∙ ap (λ (k : ℕ). answer_by k (length b.table)) needs))
 
           pub comes : Given o (told_by a.head.number r)
@@ -307,7 +307,7 @@ module _ {s : List ℕ} {a : Area} (h : AreaHolds s a) (licences : List Licence)
 -- a mask that is too short
 pub too_short : (licences : List Licence) (share : ℕ) (a : Area) (b : Buffers) → length b.mask < places (part_area a)
     → b.after ≡ b.mask → b.entries ≡ b.table
-    → Comes (footprint_of a.head.number (part_area a) share (covered_cells licences a)) answered.MaskShort b
+    → Comes (footprint_of a.head.number (part_area a) share (covered_cells licences a)) (Err answered.MaskShort) b
 unfolding footprint_of
 too_short licences share a b k e g = rw (lt-ltb (length b.mask) (places (part_area a)) k)
     (record { answer = refl; bytes = e; size = ap length g; unused = g })

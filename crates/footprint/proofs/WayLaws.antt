@@ -3,39 +3,45 @@ use Prim.Native.Nat.{ℕ}
 use mathlib.Core.Path.{◌≡◌, refl, sym, ap, subst, ◌∙◌}
 use mathlib.Core.List.{List, map}
 use native.Mathlib.Omega.{arith}
-use lib.ListN.{length, get_or, take, length-map}
-use lib.Seq.{get_or-take}
-use Rattle.map.specs.Reading.{Read, bad, good}
+use lib.ListN.{get_or, take}
+use lib.Seq.{get_or-take, length-take-le}
+use Rattle.std.specs.Prelude.{Result, Ok, Err}
+use Rattle.lists.specs.Sums.{All}
+use Rattle.units.specs.declared.Weighted.{Weighted}
+use Rattle.map.specs.Reading.{Read, bad}
 use Rattle.map.specs.Format.{Area, read_map}
 use Rattle.map.specs.declared.Area as handed
 use Rattle.map.specs.declared.Fault.{Fault}
 use Rattle.map.specs.declared.Fault.TheVariants as fault
-use Rattle.map.specs.declared.Checked.TheVariants as checked
 use Rattle.map.specs.Answers.{fault_number, summary}
 use Rattle.map.specs.Accepted.{AreaHolds, MapHolds}
 use Rattle.map.proofs.Accepted.{accepted, locates, located-self}
 use Rattle.register.specs.declared.Licence.{Licence}
 use Rattle.coverage.specs.declared.Holding.{Holding}
 use Rattle.coverage.specs.declared.Holdings.{Holdings}
-use Rattle.coverage.specs.Cover.{holding_of, holdings_of}
-use Rattle.coverage.specs.Answers as answer
-use Rattle.coverage.specs.Answers.{no_area, checked_means, reading_means, HoldingsDone}
-use Rattle.proposal.specs.declared.Outcome.{Outcome}
-use Rattle.proposal.specs.declared.Outcome.TheVariants as outcome
-use Rattle.proposal.specs.declared.Proposal as proposed
-use Rattle.proposal.specs.Answer.{Proposal, proposal}
+use Rattle.coverage.specs.Cover.{holdings_of}
+use Rattle.coverage.specs.Limits.{Limits}
+use Rattle.coverage.proofs.BlockLaws.{limits-in}
+use Rattle.coverage.specs.Answers.{no_area}
+use Rattle.coverage.specs.Holdings.{HoldingsAre}
+use Rattle.search.specs.declared.Kind.{Kind}
+use Rattle.search.specs.declared.Kind.TheVariants.{Exact, RoundedUp, OnePart}
+use Rattle.search.specs.Proposal.{kind_number}
+use Rattle.proposal.specs.declared.ProposalRefusal.{ProposalRefusal}
+use Rattle.proposal.specs.declared.ProposalRefusal.TheVariants as proposing
+use Rattle.proposal.specs.declared.answer.Proposal as proposed
+use Rattle.proposal.specs.Answer.{Given, Proposal, proposal}
+use Rattle.proposal.specs.Code.{Bounded}
 use Rattle.proposal.specs.Promises as proposes
-use Rattle.proposal.specs.Promises.{refusal_number, kind_number, area_means, Answers}
+use Rattle.proposal.specs.Promises.{refusal_number, area_means, answer_means, Answers}
 use Rattle.places.specs.Places.{IsGood}
-use Rattle.footprint.specs.declared.FootprintAnswer.{FootprintAnswer}
-use Rattle.footprint.specs.declared.PartialArea.{PartialArea}
-use Rattle.footprint.specs.declared.PartialArea.TheVariants.{Lacking, Found}
+use Rattle.footprint.specs.declared.FootprintRefusal.{FootprintRefusal}
+use Rattle.footprint.specs.declared.FootprintRefusal.TheVariants.{NotOnePart}
 use Rattle.footprint.specs.Footprint.{part_area, covered_cells, Footprint, refused, footprint_of, footprint_by, footprint_on}
 use Rattle.footprint.specs.Promises.{reply, means, FootprintDone}
-use Rattle.footprint.specs.Code.{shared_from, part_at, part_by, Readable, Fits}
+use Rattle.footprint.specs.Code.{refused_proposal, shared_from, part_at, part_by, Readable, Fits}
 use Rattle.footprint.proofs.ShareLaws.{one-share}
 use Rattle.footprint.proofs.CaseLaws.{by-refusal, by_kind, share-is}
-use Rattle.footprint.proofs.TurnLaws.{proposal-shares}
 
 -- "Refused by the input": no refusal has the number 0
 fault-number : (f : Fault) → fault_number f ≡ 0 → ⊥
@@ -46,10 +52,10 @@ fault-number fault.Order e = omega arith
 fault-number fault.Population e = omega arith
 
 -- "Buffers are untouched"
-pub untouched : (n : ℕ) (r : FootprintAnswer) (mask table : List ℕ) (o : Footprint) → means r ≡ reply n 0 0 → o ≡ refused n
-    → FootprintDone o r mask mask table table
+pub untouched : (n : ℕ) (r : FootprintRefusal) (mask table : List ℕ) (o : Footprint) → means (Err r) ≡ reply n 0 0 → o ≡ refused n
+    → FootprintDone o (Err r) mask mask table table
 untouched n r mask table o e q =
-    subst (λ (x : Footprint). FootprintDone x r mask mask table table) (sym q)
+    subst (λ (x : Footprint). FootprintDone x (Err r) mask mask table table) (sym q)
     (record { answer = e; bytes = refl; size = refl; unused = refl })
 
 -- the rows of an area of the map can be read
@@ -63,10 +69,10 @@ readable {s} {a} h e = subst (Readable s) (sym e) (record {
 -- ---- what comes of a partial area, whatever is lent
 
 module _ (s : List ℕ) (licences : List Licence) (draw : ℕ) where
-  -- none: 12 or 13
-  pub record NoPart (r : FootprintAnswer) : Type 0 where
+  -- none: 1 to 5, 12 or 13
+  pub record NoPart (r : FootprintRefusal) : Type 0 where
     pub number : ℕ
-    pub told : means r ≡ reply number 0 0
+    pub told : means (Err r) ≡ reply number 0 0
     pub comes : (mask table : ℕ) → footprint_on (read_map s) licences draw mask table ≡ refused number
 
   -- the area that `b` stands for: 7, 8 or its footprint
@@ -78,103 +84,109 @@ module _ (s : List ℕ) (licences : List Licence) (draw : ℕ) where
     pub comes : (mask table : ℕ) → footprint_on (read_map s) licences draw mask table
         ≡ footprint_of area.head.number (part_area area) share (covered_cells licences area) mask table
 
-  abbrev pub ComesOf : PartialArea → Type 0
-  ComesOf (Lacking r) = NoPart r
-  ComesOf (Found b share) = HasPart b share.0
+  abbrev pub ComesOf : Result (handed.Area × Weighted) FootprintRefusal → Type 0
+  ComesOf (Err r) = NoPart r
+  ComesOf (Ok part) = HasPart part.0 part.1.0
+
+-- a map that is refused
+pub map-refused : (s : List ℕ) (licences : List Licence) (draw : ℕ) (f : Fault) → read_map s ≡ bad (fault_number f) → (mask table : ℕ)
+    → footprint_on (read_map s) licences draw mask table ≡ refused (fault_number f)
+unfolding footprint_on
+map-refused s licences draw f e mask table = ap (λ (m : Read (List Area)). footprint_on m licences draw mask table) e
 
 -- ---- over an accepted map
 
--- its areas, where they stand, and the proposal that was made from their holdings
-module _ (s : List ℕ) {areas : List Area} {end : ℕ} (reads : read_map s ≡ good areas end) (licences : List Licence) (draw : ℕ)
-    (stands : List handed.Area) (count : ℕ) (size : count ≡ length areas) (told : take count stands ≡ map summary areas)
-    (r : proposed.Proposal) (a : Answers (proposal (holdings_of licences areas) draw) r)
-  where
-    abbrev p : Proposal
-    p = proposal (holdings_of licences areas) draw
+-- its holdings, and the proposal that is made from them
+module _ (s : List ℕ) (licences : List Licence) (h : Holdings) (d : HoldingsAre licences (read_map s) h) (draw : ℕ) where
+  abbrev areas : List Area
+  areas = d.areas
 
-    holds : MapHolds s areas
-    holds = accepted s areas end reads
+  abbrev p : Proposal
+  p = proposal (holdings_of licences areas) draw
 
-    on : (mask table : ℕ) → footprint_on (read_map s) licences draw mask table ≡ footprint_by areas licences mask table p
-    unfolding footprint_on
-    on mask table = ap (λ (m : Read (List Area)). footprint_on m licences draw mask table) reads
+  holds : MapHolds s areas
+  holds = accepted s areas d.next d.reads
 
-    -- the proposal's refusal and kind, by its outcome
-    refusal : {o : Outcome} → r.outcome ≡ o → p.refused ≡ refusal_number o
+  -- what a proposal asks of them
+  pub bounded : Bounded (take h.count h.areas)
+  bounded = record {
+    few = omega (arith, d.few, length-take-le h.count h.areas (omega (arith, d.few, d.entries)));
+    limits = subst (All Limits) (sym d.each) (limits-in licences s areas d.next d.reads);
+  }
+
+  on : (mask table : ℕ) → footprint_on (read_map s) licences draw mask table ≡ footprint_by areas licences mask table p
+  unfolding footprint_on
+  on mask table = ap (λ (m : Read (List Area)). footprint_on m licences draw mask table) d.reads
+
+  module _ {r : Result proposed.Proposal ProposalRefusal} (a : Answers (proposal (take h.count h.areas) draw) r) where
+    meant : answer_means r ≡ p
+    meant = a.meaning ∙ ap (λ (l : List Holding). proposal l draw) d.each
+
+  -- a refusal
+  pub proposal-refused : (x : ProposalRefusal) → Answers (proposal (take h.count h.areas) draw) (Err x)
+      → NoPart s licences draw (refused_proposal x)
+  proposal-refused x a =
+      let refusal = ap (λ (x : Proposal). x.refused) (meant a) in
+      record {
+        number = refusal_number x;
+        told = told x;
+        comes = λ mask table.
+            on mask table ∙ by-refusal areas licences mask table p (λ z. some x (refusal ∙ z)) ∙ ap refused (sym refusal);
+      }
+    where
+      told : (x : ProposalRefusal) → means (Err (refused_proposal x)) ≡ reply (refusal_number x) 0 0
+      told (proposing.Map f) = refl
+      told proposing.TooMany = refl
+
+      some : (x : ProposalRefusal) → refusal_number x ≡ 0 → ⊥
+      some (proposing.Map f) = fault-number f
+      some proposing.TooMany = λ e. omega arith
+
+  module _ (r : proposed.Proposal) (a : Answers (proposal (take h.count h.areas) draw) (Ok r)) where
+    abbrev given : List Given
+    given = map area_means (take r.count r.areas)
+
+    refusal : p.refused ≡ 0
     unfolding proposes.means
-    refusal e = ap (λ (x : Proposal). x.refused) (sym a.meaning) ∙ ap refusal_number e
+    refusal = ap (λ (x : Proposal). x.refused) (sym (meant a))
 
-    kind : {o : Outcome} → r.outcome ≡ o → p.kind ≡ kind_number o
+    kind : {k : Kind} → r.kind ≡ k → p.kind ≡ kind_number k
     unfolding proposes.means
-    kind e = ap (λ (x : Proposal). x.kind) (sym a.meaning) ∙ ap kind_number e
+    kind e = ap (λ (x : Proposal). x.kind) (sym (meant a)) ∙ ap kind_number e
 
-    -- a refusal
-    refuses : (x : FootprintAnswer) (n : ℕ) → means x ≡ reply n 0 0 → p.refused ≡ n → (n ≡ 0 → ⊥) → NoPart s licences draw x
-    refuses x n t e z = record {
-      number = n;
-      told = t;
-      comes = λ mask table. on mask table ∙ by-refusal areas licences mask table p (λ q. z (sym e ∙ q)) ∙ ap refused e;
-    }
+    same : given ≡ p.areas
+    unfolding proposes.means
+    same = ap (λ (x : Proposal). x.areas) (meant a)
 
     -- kinds 1 and 2
-    not_three : (x : FootprintAnswer) (n : ℕ) → means x ≡ reply 13 0 0 → p.refused ≡ 0 → p.kind ≡ n → (n ≡ 3 → ⊥)
-        → NoPart s licences draw x
-    not_three x n t e k z = record {
+    not_three : (n : ℕ) → p.kind ≡ n → (n ≡ 3 → ⊥) → NoPart s licences draw NotOnePart
+    not_three n k z = record {
       number = 13;
-      told = t;
-      comes = λ mask table. on mask table ∙ by_kind areas licences mask table p e (λ q. z (sym k ∙ q));
+      told = refl;
+      comes = λ mask table. on mask table ∙ by_kind areas licences mask table p refusal (λ q. z (sym k ∙ q));
     }
 
     -- kind 3: the area at the place of the share
-    part : p.refused ≡ 0 → p.kind ≡ 3 → ComesOf s licences draw (part_at stands (shared_from 0 (map area_means r.areas)))
-    part e k =
-        let q = one-share areas licences draw e k in
+    part : p.kind ≡ 3 → ComesOf s licences draw (part_at h.stands (shared_from 0 given))
+    part k =
+        let q = one-share areas licences draw refusal k in
         let inside = q.inside in
         let found = locates s q.area.head.number areas holds.each q.area
         (located-self 0 areas holds.ascending q.area q.member) in
-        subst (λ x. ComesOf s licences draw (part_at stands x)) (sym (proposal-shares p r a ∙ q.placed)) (record {
+        subst (λ x. ComesOf s licences draw (part_at h.stands x)) (sym (ap (shared_from 0) same ∙ q.placed)) (record {
           area = q.area;
-          handed = sym (get_or-take count stands q.place no_area (omega arith))
-              ∙ ap (λ (l : List handed.Area). get_or l q.place no_area) told
+          handed = sym (get_or-take h.count h.stands q.place no_area (omega (arith, inside, d.count)))
+              ∙ ap (λ (l : List handed.Area). get_or l q.place no_area) d.stands
               ∙ q.stands;
           holds = found.1;
           fits = (q.above, q.below);
-          comes = λ mask table. on mask table ∙ share-is holds licences draw mask table e k q;
+          comes = λ mask table. on mask table ∙ share-is holds licences draw mask table refusal k q;
         })
 
-    by-outcome : ComesOf s licences draw (part_by stands r.outcome (shared_from 0 (map area_means r.areas)))
-    by-outcome = go r.outcome refl
+    pub proposal-made : ComesOf s licences draw (part_by h.stands r.kind (shared_from 0 given))
+    proposal-made = go r.kind refl
       where
-        go : (o : Outcome) → r.outcome ≡ o → ComesOf s licences draw (part_by stands o (shared_from 0 (map area_means r.areas)))
-        go (outcome.Refused f) e = refuses _ (fault_number f) refl (refusal e) (fault-number f)
-        go outcome.TooMany e = refuses _ 12 refl (refusal e) (λ z. omega arith)
-        go outcome.Exact e = not_three _ 1 refl (refusal e) (kind e) (λ z. omega arith)
-        go outcome.RoundedUp e = not_three _ 2 refl (refusal e) (kind e) (λ z. omega arith)
-        go outcome.OnePart e = part (refusal e) (kind e)
-
--- ---- by the holdings of a map
-
-module _ (s : List ℕ) (licences : List Licence) (h : Holdings) (d : HoldingsDone licences (read_map s) h) (draw : ℕ) where
-  -- a map that is refused
-  pub map-refused : (f : Fault) → h.checked ≡ checked.Refused f → (mask table : ℕ)
-      → footprint_on (read_map s) licences draw mask table ≡ refused (fault_number f)
-  unfolding footprint_on
-  map-refused f e mask table = go (read_map s) (sym (ap checked_means e) ∙ d.answer)
-    where
-      go : (m : Read (List Area)) → answer.refused (fault_number f) ≡ reading_means m
-          → footprint_on m licences draw mask table ≡ refused (fault_number f)
-      go (bad n) q = let same : n ≡ fault_number f = cc in ap refused same
-      go (good areas end) q = absurd (let z : ◌≡◌ {A = ℕ} 0 1 = cc in omega arith)
-
-  -- a map that is accepted: the proposal is made from its holdings
-  pub map-accepted : h.checked ≡ checked.Accepted → (r : proposed.Proposal) → Answers (proposal (take h.count h.areas) draw) r
-      → ComesOf s licences draw (part_by h.stands r.outcome (shared_from 0 (map area_means r.areas)))
-  map-accepted e r a = go (read_map s) refl (sym (ap checked_means e) ∙ d.answer)
-    where
-      go : (m : Read (List Area)) → read_map s ≡ m → answer.answers tt ≡ reading_means m
-          → ComesOf s licences draw (part_by h.stands r.outcome (shared_from 0 (map area_means r.areas)))
-      go (bad n) q z = absurd (let z : ◌≡◌ {A = ℕ} 0 1 = cc in omega arith)
-      go (good areas end) q z =
-          let f = subst (λ m. HoldingsDone licences m h) q d in
-          by-outcome s q licences draw h.stands h.count (f.count ∙ length-map areas (holding_of licences)) f.stands r
-          (subst (λ (l : List Holding). Answers (proposal l draw) r) f.each a)
+        go : (k : Kind) → r.kind ≡ k → ComesOf s licences draw (part_by h.stands k (shared_from 0 given))
+        go Exact e = not_three 1 (kind e) (λ z. omega arith)
+        go RoundedUp e = not_three 2 (kind e) (λ z. omega arith)
+        go OnePart e = part (kind e)

@@ -1,10 +1,10 @@
 -- What the answers of `footprint` mean, and what it ensures of its answer, its mask and its table. Assumes nothing.
-use Rattle.std.specs.Prelude.{ℕ, ◌≡◌, List, map, ◌++◌, length, drop, replicate}
+use Rattle.std.specs.Prelude.{ℕ, ◌≡◌, Result, Ok, Err, List, map, ◌++◌, length, drop, replicate}
 use Rattle.lists.specs.Sums.{flag}
 use Rattle.lists.specs.Filters.{up_to}
 use Rattle.map.specs.Answers.{fault_number}
-use Rattle.footprint.specs.declared.FootprintAnswer.{FootprintAnswer}
-use Rattle.footprint.specs.declared.FootprintAnswer.TheVariants.{Refused, TooMany, NotOnePart, MaskShort, TableShort, Made}
+use Rattle.footprint.specs.declared.FootprintRefusal.{FootprintRefusal}
+use Rattle.footprint.specs.declared.FootprintRefusal.TheVariants.{Map, TooMany, NotOnePart, MaskShort, TableShort}
 use Rattle.footprint.specs.Footprint.{Footprint, refused, short, made}
 
 -- "A number comes only where its condition holds, and alone but for the count at 8": the number of the refusal or 0, the count of
@@ -22,14 +22,25 @@ reply_of (refused n) = reply n 0 0
 reply_of (short places needed) = reply 8 needed 0
 reply_of (made number places used cells) = reply 0 0 number
 
+-- the number of a refusal, and the count of entries that a table lacks
+abbrev pub refusal_number : FootprintRefusal → ℕ
+refusal_number (Map f) = fault_number f
+refusal_number TooMany = 12
+refusal_number NotOnePart = 13
+refusal_number MaskShort = 7
+refusal_number (TableShort needed) = 8
+
+abbrev pub needed_by : FootprintRefusal → ℕ
+needed_by (Map f) = 0
+needed_by TooMany = 0
+needed_by NotOnePart = 0
+needed_by MaskShort = 0
+needed_by (TableShort needed) = needed
+
 -- the code's answer
-abbrev pub means : FootprintAnswer → Reply
-means (Refused f) = reply (fault_number f) 0 0
-means TooMany = reply 12 0 0
-means NotOnePart = reply 13 0 0
-means MaskShort = reply 7 0 0
-means (TableShort needed) = reply 8 needed 0
-means (Made number) = reply 0 0 number
+abbrev pub means : Result ℕ FootprintRefusal → Reply
+means (Ok number) = reply 0 0 number
+means (Err r) = reply (refusal_number r) (needed_by r) 0
 
 -- "a mask of rows × columns bytes, 1 in the footprint, else 0 .. and bytes past the area stay"; at 8 "the area's mask bytes are 0";
 -- "Buffers are untouched, save the mask at 8"
@@ -53,5 +64,5 @@ pub record Leaves (o : Footprint) (r : Reply) (mask after table entries : List �
   pub unused : drop (used_by o) entries ≡ drop (used_by o) table
 
 -- the same of the code's answer
-abbrev pub FootprintDone : (o : Footprint) (r : FootprintAnswer) (mask after table entries : List ℕ) → Type 0
+abbrev pub FootprintDone : (o : Footprint) (r : Result ℕ FootprintRefusal) (mask after table entries : List ℕ) → Type 0
 FootprintDone o r mask after table entries = Leaves o (means r) mask after table entries

@@ -1,25 +1,28 @@
 // Document 01, "The footprint": the cells that a carrier keeps of the one area that it holds in part. The way in is footprint.
 #![tactic(auto)]
 
-ghost use Rattle.std.specs.Prelude.{◌≡◌, map as each, length};
+ghost use Rattle.std.specs.Prelude.{◌≡◌, map as each, length, take};
 ghost use Rattle.map.specs.Format.{read_map};
 ghost use Rattle.register.specs.Licences.{in_force};
 ghost use Rattle.proposal.specs.Promises.{area_means};
+ghost use Rattle.footprint.specs.declared.FootprintRefusal.TheVariants.{Map};
 ghost use Rattle.footprint.specs.Footprint.{footprint_on};
-ghost use Rattle.footprint.specs.Promises.{FootprintDone, means};
-ghost use Rattle.footprint.specs.Code.{shared_from, shared_means, place_within, part_by, Readable, Outlines};
+ghost use Rattle.footprint.specs.Promises.{FootprintDone, refusal_number};
+ghost use Rattle.footprint.specs.Code.{refused_proposal, refused_rounds, shared_from, shared_means, place_within, part_by, Readable, Outlines};
 
-use map::{Area, Checked, Fault};
-use proposal::{AreaAnswer, Gets, Outcome, Proposal};
+use map::{Area, Fault};
+use proposal::{AreaAnswer, Gets, Proposal, ProposalRefusal};
 use register::Register;
-use rounds::Answer;
+use ring::Grid;
+use rounds::MakeRefusal;
+use search::Kind;
 use units::Weighted;
 
-// The number of the area whose footprint is made, or why there is none.
-#[derive(Clone, Copy)]
-pub enum FootprintAnswer {
+// Why there is no footprint.
+#[derive(Clone, Copy, Debug, PartialEq, Eq)]
+pub enum FootprintRefusal {
     // 1 to 5: the map is refused.
-    Refused(Fault),
+    Map(Fault),
     // 12: more than 20 partial areas.
     TooMany,
     // 13: the proposal isn't kind 3.
@@ -28,80 +31,78 @@ pub enum FootprintAnswer {
     MaskShort,
     // 8: the table is too short, and this is the count of entries needed.
     TableShort(usize),
-    Made(u16),
+}
+
+impl From<Fault> for FootprintRefusal {
+    ghost from_gives = { λ f r. r ≡ Map f };
+
+    fn from(f: Fault) -> FootprintRefusal {
+        FootprintRefusal::Map(f)
+    }
+}
+
+impl From<ProposalRefusal> for FootprintRefusal {
+    ghost from_gives = { λ p r. r ≡ refused_proposal p };
+
+    fn from(p: ProposalRefusal) -> FootprintRefusal {
+        match p {
+            ProposalRefusal::Map(f) => FootprintRefusal::Map(f),
+            ProposalRefusal::TooMany => FootprintRefusal::TooMany,
+        }
+    }
+}
+
+// The rounds refuse what is outside the limits of a map and a proposal; the share of a proposal of kind 3 is within them.
+impl From<MakeRefusal> for FootprintRefusal {
+    ghost from_gives = { λ m r. r ≡ refused_rounds m };
+
+    fn from(m: MakeRefusal) -> FootprintRefusal {
+        match m {
+            MakeRefusal::TableShort(needed) => FootprintRefusal::TableShort(needed),
+            MakeRefusal::Outside => FootprintRefusal::NotOnePart,
+        }
+    }
+}
+
+// Document 01's number of the refusal.
+impl From<FootprintRefusal> for u32 {
+    ghost from_gives = { λ r n. n ≡ refusal_number r };
+
+    fn from(r: FootprintRefusal) -> u32 {
+        match r {
+            FootprintRefusal::Map(f) => u32::from(f),
+            FootprintRefusal::TooMany => 12,
+            FootprintRefusal::NotOnePart => 13,
+            FootprintRefusal::MaskShort => 7,
+            FootprintRefusal::TableShort(_) => 8,
+        }
+    }
 }
 
 // The place of the area that gets a share among the areas of the map, and the share.
-#[derive(Clone, Copy)]
-enum AreaShare {
-    Nowhere,
-    At(usize, Weighted),
-}
-
-// The area that a proposal shares, by where its rows stand, and the share; or the answer where there is none.
-#[derive(Clone, Copy)]
-enum PartialArea {
-    Lacking(FootprintAnswer),
-    Found(Area, Weighted),
-}
-
-impl FootprintAnswer {
-    // Document 01's number of the refusal: 0 where there is a footprint.
-    pub fn refusal(self) -> u32
-        ensures { result ≡ (means self).refused }
-    {
-        match self {
-            FootprintAnswer::Refused(f) => f.number(),
-            FootprintAnswer::TooMany => 12,
-            FootprintAnswer::NotOnePart => 13,
-            FootprintAnswer::MaskShort => 7,
-            FootprintAnswer::TableShort(_) => 8,
-            FootprintAnswer::Made(_) => 0,
+fn share_in(areas: &[AreaAnswer]) -> Option<(usize, Weighted)>
+    ensures { (shared_means result ≡ shared_from 0 (each area_means areas.now)) × place_within (length areas.now) result }
+{
+    for (i, a) in areas.iter().enumerate() {
+        if let Gets::Share(share) = a.gets {
+            return Some((i, share));
         }
     }
+    None
 }
 
-// The area that gets a share, one area a turn.
-fn share_in(areas: [AreaAnswer; 32]) -> AreaShare
-    ensures { (shared_means result ≡ shared_from 0 (each area_means areas)) × place_within 32 result }
+// The partial area of a proposal, by where its rows stand, and its share: stands are the areas of the map, at the same places as the
+// proposal's.
+// Kept as an array: it has an entry at each place that a proposal of any count has.
+fn partial_area(p: &Proposal, stands: &[Area; 32]) -> Result<(Area, Weighted), FootprintRefusal>
+    ensures { result ≡ part_by stands.now p.now.kind (shared_from 0 (each area_means (take p.now.count p.now.areas))) }
 {
-    let mut i: usize = 0;
-    while i < 32 {
-        let a = areas[i];
-        let gets = a.gets;
-        match gets {
-            Gets::Share(share) => {
-                return AreaShare::At(i, share);
-            }
-            Gets::Nothing => {}
-            Gets::Whole => {}
-            Gets::RoundedUp => {}
-        }
-        i += 1;
-    }
-    AreaShare::Nowhere
-}
-
-// The partial area of a proposal: stands are the areas of the map, at the same places as the proposal's.
-fn partial_area(p: Proposal, stands: [Area; 32]) -> PartialArea
-    ensures { result ≡ part_by stands p.outcome (shared_from 0 (each area_means p.areas)) }
-{
-    let outcome = p.outcome;
-    match outcome {
-        Outcome::Refused(f) => PartialArea::Lacking(FootprintAnswer::Refused(f)),
-        Outcome::TooMany => PartialArea::Lacking(FootprintAnswer::TooMany),
-        Outcome::Exact => PartialArea::Lacking(FootprintAnswer::NotOnePart),
-        Outcome::RoundedUp => PartialArea::Lacking(FootprintAnswer::NotOnePart),
-        Outcome::OnePart => {
-            let areas = p.areas;
-            match share_in(areas) {
-                AreaShare::Nowhere => PartialArea::Lacking(FootprintAnswer::NotOnePart),
-                AreaShare::At(i, share) => {
-                    let a = stands[i];
-                    PartialArea::Found(a, share)
-                }
-            }
-        }
+    match p.kind {
+        Kind::Exact | Kind::RoundedUp => Err(FootprintRefusal::NotOnePart),
+        Kind::OnePart => match share_in(p.areas()) {
+            Some((i, share)) => Ok((stands[i], share)),
+            None => Err(FootprintRefusal::NotOnePart),
+        },
     }
 }
 
@@ -113,66 +114,60 @@ fn outline(
     share: Weighted,
     mask: &mut [u8],
     table: &mut [u16],
-) -> FootprintAnswer
+) -> Result<u16, FootprintRefusal>
     requires { Readable map.now a }
     ensures { Outlines map.now (in_force register.places) a share.0 result
         (record { mask = mask.old; after = mask.new; table = table.old; entries = table.new }) }
 {
     if mask.len() < a.rows * a.columns {
-        return FootprintAnswer::MaskShort;
+        return Err(FootprintRefusal::MaskShort);
     }
     let always = register.naming(a.number);
     let boxes = register.boxes();
-    let edges = boxes.edges;
-    let end = 4 * boxes.count;
+    // Kept as arrays for the largest area: there is no heap.
     let mut people = [0u32; 16384];
     let mut cells = [0u8; 16384];
     places::lay_out(
         map,
-        a.columns,
-        a.rows,
-        a.start,
+        &a,
         always.licences,
-        &edges[..end],
+        &boxes,
         &mut people,
         &mut cells,
         mask,
     );
-    match rounds::make(
-        mask, &cells, &people, a.rows, a.columns, a.weight, share, table,
-    ) {
-        Answer::Done => FootprintAnswer::Made(a.number),
-        Answer::Short(needed) => FootprintAnswer::TableShort(needed),
-        Answer::Outside => FootprintAnswer::NotOnePart,
-    }
+    let grid = Grid {
+        rows: a.rows,
+        columns: a.columns,
+    };
+    let places = rounds::Area {
+        cells: &cells,
+        people: &people,
+        grid,
+        weight: a.weight,
+    };
+    rounds::make(mask, places, share, table)?;
+    Ok(a.number)
 }
 
-// The footprint of the partial area of the proposal with a draw, for a map and the licences in force. The mask gets a byte for each
-// place of the area, 1 in the footprint; the table is working store. The map is read once, and then the rows of that area once more.
+// The footprint of the partial area of the proposal with a draw, for a map and the licences in force: the number of that area. The mask
+// gets a byte for each place of the area, 1 in the footprint; the table is working store. The map is read once, and then the rows of that
+// area once more.
+// Kept as two parameters, here and in what is below: callers in C lend the mask and the table, each by itself.
 pub fn footprint(
     map: &[u8],
     register: Register,
     draw: u32,
     mask: &mut [u8],
     table: &mut [u16],
-) -> FootprintAnswer
+) -> Result<u16, FootprintRefusal>
     ensures { FootprintDone
         (footprint_on (read_map map.now) (in_force register.places) draw
         (length mask.old) (length table.old)) result
         mask.old mask.new table.old table.new }
 {
-    let held = coverage::parts::holdings_in(map, register);
-    let checked = held.checked;
-    match checked {
-        Checked::Refused(f) => FootprintAnswer::Refused(f),
-        Checked::Accepted => {
-            let areas = held.areas;
-            let stands = held.stands;
-            let p = proposal::parts::propose_from(areas, held.count, draw);
-            match partial_area(p, stands) {
-                PartialArea::Lacking(answer) => answer,
-                PartialArea::Found(a, share) => outline(map, register, a, share, mask, table),
-            }
-        }
-    }
+    let held = coverage::parts::holdings_in(map, register)?;
+    let p = proposal::parts::propose_from(held.areas(), draw)?;
+    let (a, share) = partial_area(&p, &held.stands)?;
+    outline(map, register, a, share, mask, table)
 }

@@ -3,28 +3,46 @@
 // `host/run cases --write` writes the cases and, by an implementation of its own, the lines that must come out.
 #![tactic(auto)]
 
-ghost use Rattle.std.specs.Prelude.{◌≡◌, ◌+◌, ◌<◌, ◌≤◌, IfOk, length};
+ghost use Rattle.std.specs.Prelude.{◌<◌, ◌≤◌, IfOk, length};
 
-use coverage::{BlocksAnswer, CoverageAnswer};
-use footprint::FootprintAnswer;
-use map::fields::Field;
-use map::{Found, fields};
-use proposal::{AreaAnswer, Gets, Proposal};
-use register::{GeoBox, Ground, Licence, Register};
+use cases::{Played, answered, licence_at, line, map_in, print, proposed, u16_at, u32_at};
+use footprint::FootprintRefusal;
+use register::Register;
 use std::io;
 use std::io::Read;
 
-// How many bytes a case took, and the register that it leaves.
+// 9 is no byte of a footprint, so a 9 that is left in a mask was not written.
+const UNWRITTEN_BYTE: u8 = 9;
+
+// 777 is more than the places that a mask here can have, so a 777 that is left in a table was not written.
+const UNWRITTEN_ENTRY: u16 = 777;
+
+// How much a call is lent, and the entry of the table from which none may change.
 #[derive(Clone, Copy)]
-struct Played {
-    used: usize,
-    register: Register,
+struct Lent {
+    bytes: usize,
+    entries: usize,
+    from: usize,
+}
+
+impl Lent {
+    // The three numbers at a position.
+    fn at(s: &[u8], at: usize) -> Lent
+        requires { at < 64 }
+    {
+        Lent {
+            bytes: usize::from(u16_at(s, at)),
+            entries: usize::from(u16_at(s, at + 2)),
+            from: usize::from(u16_at(s, at + 4)),
+        }
+    }
 }
 
 fn main(rt: HostRuntime) -> io::Result<()> {
-    let first = play_block(&rt, Register::empty())?;
-    let second = play_block(&rt, first)?;
-    play_block(&rt, second)?;
+    let mut register = Register::empty();
+    for _ in 0..3 {
+        register = play_block(&rt, register)?;
+    }
     Ok(())
 }
 
@@ -35,27 +53,28 @@ fn play_block(rt: &(impl Input + Print + AllocGlobal), register: Register) -> io
     play_all(rt, &cases, register)
 }
 
+// Kept in both programs: what a case is differs, and a closure from a case to its register would say no less.
 fn play_all(rt: &impl Print, s: &[u8], start: Register) -> io::Result<Register> {
-    let mut at: usize = 0;
+    let mut rest = s;
     let mut register = start;
-    while at < s.len() {
-        let done = play(rt, &s[at..], register)?;
-        at += done.used;
-        let next = done.register;
-        register = next;
+    // Kept as a while: each case says how many bytes it takes, so no range or chunk gives them.
+    while !rest.is_empty() {
+        let done = play(rt, rest, register)?;
+        rest = &rest[done.used..];
+        register = done.register;
     }
     Ok(register)
 }
 
 // One case, by its first byte: M a map, G a grant without a width, W a grant with one, C a cancellation, E an empty register,
-// P proposals, F footprints, L a list of calls. Anything else ends the block.
+// P proposals, F footprints, L a list of calls. Anything else ends the block, as does a case that isn't there whole.
+// Kept as a match, and as a clause here and in two cases: the letter in the file says what stands there, and a slice can't say that it has one.
 fn play(rt: &impl Print, s: &[u8], register: Register) -> io::Result<Played>
     requires { 0 < length s.now }
     ensures { IfOk result (λ done. (0 < done.used) × (done.used ≤ length s.now)) }
 {
-    let kind = s[0];
     let rest = &s[1..];
-    match kind {
+    match s[0] {
         b'M' => {
             let used = 1 + map_case(rt, rest)?;
             Ok(Played { used, register })
@@ -65,10 +84,9 @@ fn play(rt: &impl Print, s: &[u8], register: Register) -> io::Result<Played>
         b'C' => cancel_case(rt, s, register),
         b'E' => {
             line(rt, "empty")?;
-            let empty = Register::empty();
             Ok(Played {
                 used: 1,
-                register: empty,
+                register: Register::empty(),
             })
         }
         b'P' => {
@@ -79,7 +97,13 @@ fn play(rt: &impl Print, s: &[u8], register: Register) -> io::Result<Played>
             let used = 1 + footprint_case(rt, rest, register)?;
             Ok(Played { used, register })
         }
-        b'L' => list_case(rt, s, register),
+        b'L' => {
+            let done = list_case(rt, rest, register)?;
+            Ok(Played {
+                used: 1 + done.used,
+                register: done.register,
+            })
+        }
         _ => Ok(Played {
             used: s.len(),
             register,
@@ -87,30 +111,19 @@ fn play(rt: &impl Print, s: &[u8], register: Register) -> io::Result<Played>
     }
 }
 
-// Where the map ends whose length and bytes stand first; its bytes start at 4. 0 where it isn't there whole.
-fn map_end(s: &[u8]) -> usize
-    ensures { result ≤ length s.now }
-{
-    if s.len() < 4 {
-        return 0;
-    }
-    let size = u32_at(s, 0) as usize;
-    if s.len() - 4 < size {
-        return 0;
-    }
-    4 + size
-}
-
 // A map: its length, its bytes, and the numbers that are looked up in it.
 fn map_case(rt: &impl Print, s: &[u8]) -> io::Result<usize>
     ensures { IfOk result (λ used. used ≤ length s.now) }
 {
-    let end = map_end(s);
-    if end < 4 {
+    let Some(map) = map_in(s) else {
         return Ok(s.len());
-    }
-    let map = &s[4..end];
-    print(rt, "map", map::check(map).number() as u64)?;
+    };
+    let refusal = match map::check(map) {
+        Ok(()) => 0,
+        Err(fault) => u32::from(fault),
+    };
+    print(rt, "map", u64::from(refusal))?;
+    let end = 4 + map.len();
     Ok(end + look_ups(rt, &s[end..], map)?)
 }
 
@@ -118,57 +131,45 @@ fn map_case(rt: &impl Print, s: &[u8]) -> io::Result<usize>
 fn look_ups(rt: &impl Print, s: &[u8], map: &[u8]) -> io::Result<usize>
     ensures { IfOk result (λ used. used ≤ length s.now) }
 {
-    if s.len() == 0 {
+    if s.is_empty() {
         return Ok(0);
     }
-    let count = s[0];
-    let mut used: usize = 1;
-    let mut i: u8 = 0;
-    while i < count {
-        if s.len() - used < 2 {
-            return Ok(s.len());
-        }
-        look_up(rt, map, u16_at(s, used))?;
-        used += 2;
-        i += 1;
+    let count = usize::from(s[0]);
+    let numbers = &s[1..];
+    for number in numbers.chunks_exact(2).take(count) {
+        look_up(rt, map, u16_at(number, 0))?;
     }
-    Ok(used)
+    Ok(1 + numbers.len().min(2 * count))
 }
 
 // The head of the area with a number, and the length and the sum of the part that holds its rows.
 fn look_up(rt: &impl Print, map: &[u8], number: u16) -> io::Result<()> {
-    print(rt, "area", number as u64)?;
+    print(rt, "area", u64::from(number))?;
     match map::look_up(map, number) {
-        Found::Refused(f) => print(rt, " refused", f.number() as u64)?,
-        Found::Lacking => line(rt, " lacking")?,
-        Found::At(a) => {
-            print(rt, " weight", a.weight as u64)?;
+        Err(fault) => print(rt, " refused", u64::from(u32::from(fault)))?,
+        Ok(None) => line(rt, " lacking")?,
+        Ok(Some(a)) => {
+            print(rt, " weight", u64::from(a.weight))?;
             print(rt, " rows", a.rows as u64)?;
             print(rt, " columns", a.columns as u64)?;
-            let p = a.population;
-            print(rt, " people", p.0)?;
+            print(rt, " people", a.population.0)?;
         }
     }
     let part = map::rows_of(map, number);
     print(rt, " bytes", part.len() as u64)?;
-    print(rt, " sum", sum(part) as u64)
+    print(rt, " sum", u64::from(sum(part)))
 }
 
 // The sum of the bytes, modulo 2^32.
 fn sum(s: &[u8]) -> u32 {
-    let mut total: u32 = 0;
-    let mut i: usize = 0;
-    while i < s.len() {
-        total = std::num::wrapping_add_u32(total, fields::wide(s[i]));
-        i += 1;
-    }
-    total
+    s.iter()
+        .fold(0u32, |total, b| total.wrapping_add(u32::from(*b)))
 }
 
 // A grant in so many bytes: the call sign; 0 and an area's number, or 1 and the four edges of a box. Of 28 bytes the last four are
 // the width; of 24 there is none.
 fn grant_case(rt: &impl Print, s: &[u8], used: usize, register: Register) -> io::Result<Played>
-    requires { (0 < length s.now) × (24 ≤ used) }
+    requires { (0 < length s.now) × (0 < used) }
     ensures { IfOk result (λ done. (0 < done.used) × (done.used ≤ length s.now)) }
 {
     if s.len() < used {
@@ -177,47 +178,8 @@ fn grant_case(rt: &impl Print, s: &[u8], used: usize, register: Register) -> io:
             register,
         });
     }
-    let granted = register.grant(licence_at(s, used));
-    let answer = granted.answer;
-    print(rt, "grant", answer.number() as u64)?;
-    let next = granted.next;
-    Ok(Played {
-        used,
-        register: next,
-    })
-}
-
-fn licence_at(s: &[u8], used: usize) -> Licence
-    requires { 24 ≤ length s.now }
-{
-    let call_sign = u32_at(s, 1);
-    let ground = ground_at(s);
-    if used < 28 {
-        return Licence::full(call_sign, ground);
-    }
-    Licence {
-        call_sign,
-        ground,
-        width: u32_at(s, 24),
-    }
-}
-
-fn ground_at(s: &[u8]) -> Ground
-    requires { 24 ≤ length s.now }
-{
-    if s[5] == 0 {
-        return Ground::Area(u16_at(s, 6));
-    }
-    let south = fields::signed(u32_at(s, 8));
-    let north = fields::signed(u32_at(s, 12));
-    let west = fields::signed(u32_at(s, 16));
-    let east = fields::signed(u32_at(s, 20));
-    Ground::Box(GeoBox {
-        south,
-        north,
-        west,
-        east,
-    })
+    let register = answered(rt, "grant", register, register.grant(licence_at(s)))?;
+    Ok(Played { used, register })
 }
 
 // A cancellation: the call sign.
@@ -231,14 +193,8 @@ fn cancel_case(rt: &impl Print, s: &[u8], register: Register) -> io::Result<Play
             register,
         });
     }
-    let cancelled = register.cancel(u32_at(s, 1));
-    let answer = cancelled.answer;
-    print(rt, "cancel", answer.number() as u64)?;
-    let next = cancelled.next;
-    Ok(Played {
-        used: 5,
-        register: next,
-    })
+    let register = answered(rt, "cancel", register, register.cancel(u32_at(s, 1)))?;
+    Ok(Played { used: 5, register })
 }
 
 // Proposals: a map's length and bytes, how many numbers and draws there are, the numbers whose coverage and blocks are asked for,
@@ -246,21 +202,20 @@ fn cancel_case(rt: &impl Print, s: &[u8], register: Register) -> io::Result<Play
 fn proposal_case(rt: &impl Print, s: &[u8], register: Register) -> io::Result<usize>
     ensures { IfOk result (λ used. used ≤ length s.now) }
 {
-    let end = map_end(s);
-    if end < 4 {
+    let Some(map) = map_in(s) else {
         return Ok(s.len());
-    }
-    let map = &s[4..end];
+    };
+    let end = 4 + map.len();
     let rest = &s[end..];
     if rest.len() < 2 {
         return Ok(s.len());
     }
-    let numbers = coverages(rt, &rest[2..], map, register, rest[0])?;
-    let at = end + 2 + numbers;
+    let at = end + 2 + coverages(rt, &rest[2..], map, register, rest[0])?;
     Ok(at + proposals(rt, &s[at..], map, register, rest[1])?)
 }
 
 // The coverage and the blocks of the areas with some numbers.
+// Kept beside look_ups, proposals and footprints: what they do with an item differs, and a closure that prints would say no less.
 fn coverages(
     rt: &impl Print,
     s: &[u8],
@@ -270,41 +225,29 @@ fn coverages(
 ) -> io::Result<usize>
     ensures { IfOk result (λ used. used ≤ length s.now) }
 {
-    let mut used: usize = 0;
-    let mut i: u8 = 0;
-    while i < count {
-        if s.len() - used < 2 {
-            return Ok(s.len());
-        }
-        covered(rt, map, register, u16_at(s, used))?;
-        used += 2;
-        i += 1;
+    for number in s.chunks_exact(2).take(usize::from(count)) {
+        covered(rt, map, register, u16_at(number, 0))?;
     }
-    Ok(used)
+    Ok(s.len().min(2 * usize::from(count)))
 }
 
 fn covered(rt: &impl Print, map: &[u8], register: Register, number: u16) -> io::Result<()> {
-    print(rt, "coverage", number as u64)?;
+    print(rt, "coverage", u64::from(number))?;
     match coverage::coverage(map, register, number) {
-        CoverageAnswer::Refused(f) => print(rt, " refused", f.number() as u64)?,
-        CoverageAnswer::Covered(sums) => {
-            let mhz_pops = sums.mhz_pops;
-            print(rt, " mhz-pops", mhz_pops.0)?;
-            let cells = sums.cells;
-            print(rt, " cells", cells.0)?;
+        Err(fault) => print(rt, " refused", u64::from(u32::from(fault)))?,
+        Ok(sums) => {
+            print(rt, " mhz-pops", sums.mhz_pops.0)?;
+            print(rt, " cells", sums.cells.0)?;
         }
     }
     match coverage::blocks(map, register, number) {
-        BlocksAnswer::Refused(f) => print(rt, " refused", f.number() as u64)?,
-        BlocksAnswer::Held(b) => {
+        Err(fault) => print(rt, " refused", u64::from(u32::from(fault))),
+        Ok(b) => {
             print(rt, " whole", b.whole)?;
-            let value = b.value;
-            print(rt, " value", value.0)?;
-            let size = b.size;
-            print(rt, " size", size.0)?;
+            print(rt, " value", b.value.0)?;
+            print(rt, " size", b.size.0)
         }
     }
-    Ok(())
 }
 
 // The proposals with some draws.
@@ -317,213 +260,107 @@ fn proposals(
 ) -> io::Result<usize>
     ensures { IfOk result (λ used. used ≤ length s.now) }
 {
-    let mut used: usize = 0;
-    let mut i: u8 = 0;
-    while i < count {
-        if s.len() - used < 4 {
-            return Ok(s.len());
-        }
-        let draw = u32_at(s, used);
-        print(rt, "propose", draw as u64)?;
+    for bytes in s.chunks_exact(4).take(usize::from(count)) {
+        let draw = u32_at(bytes, 0);
+        print(rt, "propose", u64::from(draw))?;
         proposed(rt, proposal::propose(map, register, draw))?;
-        used += 4;
-        i += 1;
     }
-    Ok(used)
-}
-
-fn proposed(rt: &impl Print, p: Proposal) -> io::Result<()> {
-    let outcome = p.outcome;
-    let refused = outcome.refusal();
-    if refused != 0 {
-        return print(rt, " refused", refused as u64);
-    }
-    print(rt, " kind", outcome.kind() as u64)?;
-    let target = p.target;
-    print(rt, " target", target.0)?;
-    let white = p.white_space;
-    print(rt, " white", white.0)?;
-    print(rt, " tied", p.tied as u64)?;
-    let areas = p.areas;
-    let count = p.count;
-    given(rt, areas, count)
-}
-
-// What the first areas are given.
-fn given(rt: &impl Print, areas: [AreaAnswer; 32], count: usize) -> io::Result<()> {
-    let mut i: usize = 0;
-    while i < 32 {
-        if i < count {
-            let a = areas[i];
-            print(rt, " area", a.number as u64)?;
-            print(rt, "  blocks", a.blocks)?;
-            let cells = a.cells;
-            print(rt, "  cells", cells.0)?;
-            let gets = a.gets;
-            match gets {
-                Gets::Nothing => line(rt, "  nothing")?,
-                Gets::Whole => line(rt, "  whole")?,
-                Gets::RoundedUp => line(rt, "  rounded up")?,
-                Gets::Share(amount) => print(rt, "  share", amount.0)?,
-            }
-        }
-        i += 1;
-    }
-    Ok(())
+    Ok(s.len().min(4 * usize::from(count)))
 }
 
 // Footprints: a map's length and bytes, and the calls.
 fn footprint_case(rt: &impl Print, s: &[u8], register: Register) -> io::Result<usize>
     ensures { IfOk result (λ used. used ≤ length s.now) }
 {
-    let end = map_end(s);
-    if end < 4 {
+    let Some(map) = map_in(s) else {
         return Ok(s.len());
-    }
-    let map = &s[4..end];
+    };
+    let end = 4 + map.len();
     Ok(end + footprints(rt, &s[end..], map, register)?)
 }
 
-// A count of calls, and the calls.
+// A count of calls, and the calls. One that asks for more than there is to lend ends the block.
 fn footprints(rt: &impl Print, s: &[u8], map: &[u8], register: Register) -> io::Result<usize>
     ensures { IfOk result (λ used. used ≤ length s.now) }
 {
-    if s.len() == 0 {
+    if s.is_empty() {
         return Ok(0);
     }
-    let count = s[0];
-    let mut used: usize = 1;
-    let mut i: u8 = 0;
-    while i < count {
-        if s.len() - used < 10 {
+    let count = usize::from(s[0]);
+    let calls = &s[1..];
+    for call in calls.chunks_exact(10).take(count) {
+        if !outlined(rt, call, map, register)? {
             return Ok(s.len());
         }
-        if !outlined(rt, &s[used..], map, register)? {
-            return Ok(s.len());
-        }
-        used += 10;
-        i += 1;
     }
-    Ok(used)
+    Ok(1 + calls.len().min(10 * count))
 }
 
 // One call: the draw, the bytes of the mask, the entries of the table, and the entry from which none may change. False where it
 // asks for more bytes or entries than there are to lend.
 fn outlined(rt: &impl Print, s: &[u8], map: &[u8], register: Register) -> io::Result<bool> {
-    let bytes = u16_at(s, 4) as usize;
-    let entries = u16_at(s, 6) as usize;
-    let mut mask = mask_to_lend();
-    let mut table = table_to_lend();
-    if bytes <= 64 {
-        if entries <= 4096 {
-            outline(
-                rt,
-                s,
-                map,
-                register,
-                &mut mask[..bytes],
-                &mut table[..entries],
-            )?;
-            return Ok(true);
-        }
+    let lent = Lent::at(s, 4);
+    let mut mask = [UNWRITTEN_BYTE; 64];
+    let mut table = [UNWRITTEN_ENTRY; 4096];
+    if 64 < lent.bytes || 4096 < lent.entries {
+        line(rt, " too long")?;
+        return Ok(false);
     }
-    line(rt, " too long")?;
-    Ok(false)
-}
-
-// 64 bytes to lend: 9 is no byte of a footprint, so a 9 that is left was not written.
-fn mask_to_lend() -> [u8; 64]
-    ensures { 64 ≡ length result }
-{
-    [9u8; 64]
-}
-
-// 4,096 entries to lend: 777 is more than the places that a mask here can have, so a 777 that is left was not written.
-fn table_to_lend() -> [u16; 4096]
-    ensures { 4096 ≡ length result }
-{
-    [777u16; 4096]
-}
-
-// The answer of a call, the mask that it leaves, and how much of the table it leaves as it was.
-fn outline(
-    rt: &impl Print,
-    s: &[u8],
-    map: &[u8],
-    register: Register,
-    mask: &mut [u8],
-    table: &mut [u16],
-) -> io::Result<()> {
+    let mask = &mut mask[..lent.bytes];
+    let table = &mut table[..lent.entries];
     let draw = u32_at(s, 0);
-    print(rt, "footprint", draw as u64)?;
-    answered(rt, footprint::footprint(map, register, draw, mask, table))?;
-    show_mask(rt, mask)?;
-    let from = u16_at(s, 8) as usize;
-    print(rt, " unchanged", unchanged(table, from))
-}
-
-fn answered(rt: &impl Print, answer: FootprintAnswer) -> io::Result<()> {
-    let refused = answer.refusal();
-    match answer {
-        FootprintAnswer::TableShort(needed) => print(rt, " needed", needed as u64),
-        FootprintAnswer::Made(number) => print(rt, " area", number as u64),
-        _ => print(rt, " refused", refused as u64),
+    print(rt, "footprint", u64::from(draw))?;
+    match footprint::footprint(map, register, draw, mask, table) {
+        Ok(number) => print(rt, " area", u64::from(number))?,
+        Err(FootprintRefusal::TableShort(needed)) => print(rt, " needed", needed as u64)?,
+        Err(refusal) => print(rt, " refused", u64::from(u32::from(refusal)))?,
     }
+    show_lent(rt, mask, table, lent.from)?;
+    Ok(true)
 }
 
-// A character for each byte of a mask.
-fn show_mask(rt: &impl Print, mask: &[u8]) -> io::Result<()> {
+// The mask that a call leaves, a character for each byte, and how many entries of the table from a position on were not written.
+fn show_lent(rt: &impl Print, mask: &[u8], table: &[u16], from: usize) -> io::Result<()> {
     print!(rt; " mask ")?;
-    let mut i: usize = 0;
-    while i < mask.len() {
-        show_byte(rt, mask[i])?;
-        i += 1;
+    for b in mask {
+        show_byte(rt, *b)?;
     }
-    println!(rt)
+    println!(rt)?;
+    print(rt, " unchanged", unchanged(table, from) as u64)
 }
 
 fn show_byte(rt: &impl Print, b: u8) -> io::Result<()> {
     match b {
         0 => print!(rt; "0"),
         1 => print!(rt; "1"),
-        9 => print!(rt; "."),
+        UNWRITTEN_BYTE => print!(rt; "."),
         _ => print!(rt; "?"),
     }
 }
 
-// How many entries from a position on hold 777.
-fn unchanged(table: &[u16], from: usize) -> u64 {
-    let mut count: u64 = 0;
-    let mut i = from;
-    while i < table.len() {
-        if table[i] == 777 {
-            count += 1;
-        }
-        i += 1;
-    }
-    count
+// How many entries from a position on were not written.
+fn unchanged(table: &[u16], from: usize) -> usize {
+    table[from.min(table.len())..]
+        .iter()
+        .filter(|entry| **entry == UNWRITTEN_ENTRY)
+        .count()
 }
 
 // A list of calls: a map's length and bytes, and the list. The register that it leaves takes the place of the one before.
 fn list_case(rt: &impl Print, s: &[u8], register: Register) -> io::Result<Played>
-    requires { 0 < length s.now }
-    ensures { IfOk result (λ done. (0 < done.used) × (done.used ≤ length s.now)) }
+    ensures { IfOk result (λ done. done.used ≤ length s.now) }
 {
-    let rest = &s[1..];
-    let end = map_end(rest);
-    if end < 4 {
+    let Some(map) = map_in(s) else {
         return Ok(Played {
             used: s.len(),
             register,
         });
-    }
-    let map = &rest[4..end];
-    let done = listed(rt, &rest[end..], map, register)?;
-    let used = 1 + end + done.used;
-    let next = done.register;
+    };
+    let end = 4 + map.len();
+    let done = listed(rt, &s[end..], map, register)?;
     Ok(Played {
-        used,
-        register: next,
+        used: end + done.used,
+        register: done.register,
     })
 }
 
@@ -532,50 +369,43 @@ fn list_case(rt: &impl Print, s: &[u8], register: Register) -> io::Result<Played
 fn listed(rt: &impl Print, s: &[u8], map: &[u8], register: Register) -> io::Result<Played>
     ensures { IfOk result (λ done. done.used ≤ length s.now) }
 {
-    let bytes = u16_at(s, 0) as usize;
-    let entries = u16_at(s, 2) as usize;
-    let from = u16_at(s, 4) as usize;
-    let count = u16_at(s, 6) as usize;
-    let end = 8 + 4 * count;
-    if end <= s.len() {
-        let words = words_in(&s[8..end]);
-        let mut mask = mask_to_lend();
-        let mut table = table_to_lend();
-        if bytes <= 64 {
-            if entries <= 4096 {
-                if count <= 1024 {
-                    let next = play_list(
-                        rt,
-                        map,
-                        &words[..count],
-                        &mut mask[..bytes],
-                        &mut table[..entries],
-                        from,
-                    )?;
-                    return Ok(Played {
-                        used: end,
-                        register: next,
-                    });
-                }
-            }
-        }
-        line(rt, " too long")?;
-    }
-    Ok(Played {
+    let block_ends = Played {
         used: s.len(),
+        register,
+    };
+    let lent = Lent::at(s, 0);
+    let count = usize::from(u16_at(s, 6));
+    let end = 8 + 4 * count;
+    if s.len() < end {
+        return Ok(block_ends);
+    }
+    let words = words_in(&s[8..end]);
+    let mut mask = [UNWRITTEN_BYTE; 64];
+    let mut table = [UNWRITTEN_ENTRY; 4096];
+    if 64 < lent.bytes || 4096 < lent.entries || 1024 < count {
+        line(rt, " too long")?;
+        return Ok(block_ends);
+    }
+    let register = play_list(
+        rt,
+        map,
+        &words[..count],
+        &mut mask[..lent.bytes],
+        &mut table[..lent.entries],
+        lent.from,
+    )?;
+    Ok(Played {
+        used: end,
         register,
     })
 }
 
 // The words of a list; those past its end are 0, and are not lent.
-fn words_in(s: &[u8]) -> [u32; 1024]
-    ensures { 1024 ≡ length result }
-{
+// Kept as an array: a list here has so many words at most, and nothing is to run out of memory.
+fn words_in(s: &[u8]) -> [u32; 1024] {
     let mut words = [0u32; 1024];
-    let mut i: usize = 0;
-    while i < 1024 {
-        words[i] = u32_at(s, 4 * i);
-        i += 1;
+    for (word, bytes) in words.iter_mut().zip(s.chunks_exact(4)) {
+        *word = u32_at(bytes, 0);
     }
     words
 }
@@ -594,31 +424,6 @@ fn play_list(
     let played = ledger::play(map, words, mask, table);
     print(rt, " calls", played.calls as u64)?;
     print(rt, " refused", played.refused as u64)?;
-    show_mask(rt, mask)?;
-    print(rt, " unchanged", unchanged(table, from))?;
+    show_lent(rt, mask, table, from)?;
     Ok(played.register)
-}
-
-// The u16 at a position, 0 past the end.
-fn u16_at(s: &[u8], at: usize) -> u16 {
-    match fields::u16_field(s, at, 0, 65535) {
-        Field::Bad(_) => 0,
-        Field::Good(v, _) => (v % 65536) as u16,
-    }
-}
-
-// The u32 at a position, 0 past the end.
-fn u32_at(s: &[u8], at: usize) -> u32 {
-    match fields::u32_field(s, at, 0, 4294967295) {
-        Field::Bad(_) => 0,
-        Field::Good(v, _) => v,
-    }
-}
-
-fn line(rt: &impl Print, text: &str) -> io::Result<()> {
-    println!(rt; "{text}")
-}
-
-fn print(rt: &impl Print, text: &str, n: u64) -> io::Result<()> {
-    println!(rt; "{text} {n}")
 }

@@ -3,29 +3,26 @@
 // `host/run cases --write` writes the cases and, by an implementation of its own, the lines that must come out.
 #![tactic(auto)]
 
-ghost use Rattle.std.specs.Prelude.{◌≤◌, ◌<◌, IfOk, length};
+ghost use Rattle.std.specs.Prelude.{◌≤◌, ◌<◌, IfOk, IfSome, length};
 
-use map::fields;
-use map::fields::Field;
-use proposal::{AreaAnswer, Gets, Proposal};
-use records::{Kept, Record};
-use register::{GeoBox, Ground, Licence, Register};
+use cases::{Played, answered, byte_at, licence_at, line, map_in, print, proposed, u32_at};
+use coverage::Holding;
+use records::{Kept, Next, Record};
+use register::{Licence, Register};
 use std::io;
 use std::io::Read;
 use units::{Cells, MhzPops, People};
 
-// What a call is made with, and what it leaves.
+// What is done to the register or the record.
 #[derive(Clone, Copy)]
-struct Both {
-    register: Register,
-    kept: Record,
-}
-
-// How many bytes were played, and the register that they leave.
-#[derive(Clone, Copy)]
-struct Played {
-    used: usize,
-    register: Register,
+enum Item {
+    Grant(Licence),
+    Cancel(u32),
+    Propose(u32),
+    // An entry that stands at a place from here on. A place of 32 or more changes nothing.
+    Entry(u8, Kept),
+    Count(u64),
+    Empty,
 }
 
 fn main(rt: HostRuntime) -> io::Result<()> {
@@ -34,191 +31,99 @@ fn main(rt: HostRuntime) -> io::Result<()> {
     play_all(&rt, &cases)
 }
 
+// Kept in both programs: what a case is differs, and a closure from a case to its register would say no less.
 fn play_all(rt: &impl Print, s: &[u8]) -> io::Result<()> {
-    let mut at: usize = 0;
+    let mut rest = s;
     let mut register = Register::empty();
-    while at < s.len() {
-        let done = play(rt, &s[at..], register)?;
-        at += done.used;
-        let next = done.register;
-        register = next;
+    // Kept as a while: each case says how many bytes it takes, so no range or chunk gives them.
+    while !rest.is_empty() {
+        let done = play(rt, rest, register)?;
+        rest = &rest[done.used..];
+        register = done.register;
     }
     Ok(())
 }
 
 // One case: R, a map's length and bytes, a count of items, and the items. Anything else ends the block.
+// Kept as a clause, here and in play_items: a slice can't say that it has a first byte.
 fn play(rt: &impl Print, s: &[u8], register: Register) -> io::Result<Played>
     requires { 0 < length s.now }
     ensures { IfOk result (λ done. (0 < done.used) × (done.used ≤ length s.now)) }
 {
-    let end = map_end(s);
-    if end < 5 {
-        return Ok(Played {
-            used: s.len(),
-            register,
-        });
+    let block_ends = Played {
+        used: s.len(),
+        register,
+    };
+    if s[0] != b'R' {
+        return Ok(block_ends);
     }
-    let map = &s[5..end];
-    let done = play_items(rt, &s[end..], map, loaded(rt, map, register)?)?;
-    let next = done.register;
+    let Some(map) = map_in(&s[1..]) else {
+        return Ok(block_ends);
+    };
+    let end = 5 + map.len();
+    if s.len() == end {
+        return Ok(block_ends);
+    }
+    let kept = loaded(rt, map)?;
+    let done = play_items(rt, &s[end..], map, Next { register, kept })?;
     Ok(Played {
         used: end + done.used,
-        register: next,
+        register: done.register,
     })
 }
 
-// Where the map of a case ends and the count stands; the map's bytes start at 5. 0 where there is no R or they aren't there whole.
-fn map_end(s: &[u8]) -> usize
-    requires { 0 < length s.now }
-    ensures { result < length s.now }
-{
-    let size = u32_at(s, 1) as usize;
-    if byte_at(s, 0) != b'R' {
-        return 0;
-    }
-    if s.len() <= 5 + size {
-        return 0;
-    }
-    5 + size
-}
-
-// The register, and the record of a map.
-fn loaded(rt: &impl Print, map: &[u8], register: Register) -> io::Result<Both> {
-    let load = Record::load(map);
-    let checked = load.checked;
-    print(rt, "record", checked.number() as u64)?;
-    let kept = load.kept;
-    Ok(Both { register, kept })
+// The record of a map; of one that is refused, a record of no area.
+fn loaded(rt: &impl Print, map: &[u8]) -> io::Result<Record> {
+    let blank = Record {
+        count: 0,
+        areas: [Kept::from(Holding::NONE); Record::AREAS],
+    };
+    answered(rt, "record", blank, Record::load(map))
 }
 
 // A count of items, and the items; then the record that they leave. An item that isn't there whole ends the block.
-fn play_items(rt: &impl Print, s: &[u8], map: &[u8], mut both: Both) -> io::Result<Played>
+fn play_items(rt: &impl Print, s: &[u8], map: &[u8], start: Next) -> io::Result<Played>
     requires { 0 < length s.now }
     ensures { IfOk result (λ done. done.used ≤ length s.now) }
 {
-    let count = byte_at(s, 0);
-    let mut used: usize = 1;
-    let mut i: u8 = 0;
-    while i < count {
-        let item = &s[used..];
-        let size = item_size(item);
-        if size == 0 {
-            let register = both.register;
+    let mut both = start;
+    let mut rest = &s[1..];
+    for _ in 0..s[0] {
+        let Some((item, size)) = item_in(rest) else {
             return Ok(Played {
                 used: s.len(),
-                register,
+                register: both.register,
             });
-        }
+        };
         both = play_item(rt, item, map, both)?;
-        used += size;
-        i += 1;
+        rest = &rest[size..];
     }
-    let kept = both.kept;
-    show(rt, kept)?;
-    let register = both.register;
-    Ok(Played { used, register })
+    show(rt, &both.kept)?;
+    Ok(Played {
+        used: s.len() - rest.len(),
+        register: both.register,
+    })
 }
 
-// How many bytes the item that stands first takes, by its letter. 0 where it isn't there whole.
-fn item_size(s: &[u8]) -> usize
-    ensures { result ≤ length s.now }
+// The item that stands first and how many bytes it takes, by its letter: G a grant without a width, W a grant with one, C a
+// cancellation, P a proposal, A an entry of the record, N the record's count, E an empty register. None where it isn't there whole.
+fn item_in(s: &[u8]) -> Option<(Item, usize)>
+    ensures { IfSome result (λ item. item.1 ≤ length s.now) }
 {
-    let size: usize = match byte_at(s, 0) {
-        b'G' => 24,
-        b'W' => 28,
-        b'C' | b'P' => 5,
-        b'A' => 34,
-        b'N' => 9,
-        b'E' => 1,
-        _ => 0,
+    let (item, size) = match byte_at(s, 0) {
+        b'G' => (Item::Grant(licence_at(s)), 24),
+        b'W' => (Item::Grant(licence_at(s)), 28),
+        b'C' => (Item::Cancel(u32_at(s, 1)), 5),
+        b'P' => (Item::Propose(u32_at(s, 1)), 5),
+        b'A' => (Item::Entry(byte_at(s, 1), entry_at(s)), 34),
+        b'N' => (Item::Count(u64_at(s, 1)), 9),
+        b'E' => (Item::Empty, 1),
+        _ => return None,
     };
     if s.len() < size {
-        return 0;
+        return None;
     }
-    size
-}
-
-// One item, by its letter: G a grant without a width, W a grant with one, C a cancellation, P a proposal, A an entry of the record,
-// N the record's count, E an empty register.
-fn play_item(rt: &impl Print, s: &[u8], map: &[u8], both: Both) -> io::Result<Both> {
-    match byte_at(s, 0) {
-        b'G' | b'W' => grant(rt, s, map, both),
-        b'C' => cancel(rt, s, map, both),
-        b'P' => propose(rt, s, both),
-        b'A' => Ok(with_entry(s, both)),
-        b'N' => Ok(with_count(s, both)),
-        _ => emptied(rt, both),
-    }
-}
-
-fn grant(rt: &impl Print, s: &[u8], map: &[u8], both: Both) -> io::Result<Both> {
-    let register = both.register;
-    let kept = both.kept;
-    let granted = kept.grant(map, register, licence_at(s));
-    let answer = granted.answer;
-    print(rt, "grant", answer.number() as u64)?;
-    let next = granted.next;
-    let after = granted.kept;
-    Ok(Both {
-        register: next,
-        kept: after,
-    })
-}
-
-// The call sign, the ground, and after the letter W the width.
-fn licence_at(s: &[u8]) -> Licence {
-    let call_sign = u32_at(s, 1);
-    let ground = ground_at(s);
-    if byte_at(s, 0) == b'G' {
-        return Licence::full(call_sign, ground);
-    }
-    Licence {
-        call_sign,
-        ground,
-        width: u32_at(s, 24),
-    }
-}
-
-// An area's number after a 0, or else the four edges of a box.
-fn ground_at(s: &[u8]) -> Ground {
-    if byte_at(s, 5) == 0 {
-        return Ground::Area((u32_at(s, 6) % 65536) as u16);
-    }
-    let south = fields::signed(u32_at(s, 8));
-    let north = fields::signed(u32_at(s, 12));
-    let west = fields::signed(u32_at(s, 16));
-    let east = fields::signed(u32_at(s, 20));
-    Ground::Box(GeoBox {
-        south,
-        north,
-        west,
-        east,
-    })
-}
-
-fn cancel(rt: &impl Print, s: &[u8], map: &[u8], both: Both) -> io::Result<Both> {
-    let register = both.register;
-    let kept = both.kept;
-    let cancelled = kept.cancel(map, register, u32_at(s, 1));
-    let answer = cancelled.answer;
-    print(rt, "cancel", answer.number() as u64)?;
-    let next = cancelled.next;
-    let after = cancelled.kept;
-    Ok(Both {
-        register: next,
-        kept: after,
-    })
-}
-
-// A place, and the entry that stands there from here on. A place of 32 or more changes nothing.
-fn with_entry(s: &[u8], both: Both) -> Both {
-    let mut kept = both.kept;
-    let place = byte_at(s, 1) as usize;
-    if place < 32 {
-        kept.areas[place] = entry_at(s);
-    }
-    let register = both.register;
-    Both { register, kept }
+    Some((item, size))
 }
 
 fn entry_at(s: &[u8]) -> Kept {
@@ -231,127 +136,61 @@ fn entry_at(s: &[u8]) -> Kept {
     }
 }
 
-fn with_count(s: &[u8], both: Both) -> Both {
-    let mut kept = both.kept;
-    kept.count = u64_at(s, 1);
-    let register = both.register;
-    Both { register, kept }
+// The u64 at a position of an item.
+fn u64_at(s: &[u8], at: usize) -> u64
+    requires { at < 32 }
+{
+    u64::from(u32_at(s, at)) + 4294967296 * u64::from(u32_at(s, at + 4))
 }
 
-fn emptied(rt: &impl Print, both: Both) -> io::Result<Both> {
-    line(rt, "empty")?;
-    let kept = both.kept;
-    Ok(Both {
-        register: Register::empty(),
-        kept,
-    })
-}
-
-fn propose(rt: &impl Print, s: &[u8], both: Both) -> io::Result<Both> {
-    let draw = u32_at(s, 1);
-    print(rt, "propose", draw as u64)?;
-    let kept = both.kept;
-    proposed(rt, kept.propose(draw))?;
-    Ok(both)
-}
-
-fn proposed(rt: &impl Print, p: Proposal) -> io::Result<()> {
-    let outcome = p.outcome;
-    let refused = outcome.refusal();
-    if refused != 0 {
-        return print(rt, " refused", refused as u64);
-    }
-    print(rt, " kind", outcome.kind() as u64)?;
-    let target = p.target;
-    print(rt, " target", target.0)?;
-    let white = p.white_space;
-    print(rt, " white", white.0)?;
-    print(rt, " tied", p.tied as u64)?;
-    let areas = p.areas;
-    let count = p.count;
-    given(rt, areas, count)
-}
-
-// What the first areas are given.
-fn given(rt: &impl Print, areas: [AreaAnswer; 32], count: usize) -> io::Result<()> {
-    let mut i: usize = 0;
-    while i < 32 {
-        if i < count {
-            let a = areas[i];
-            given_to(rt, a)?;
+fn play_item(rt: &impl Print, item: Item, map: &[u8], both: Next) -> io::Result<Next> {
+    let Next { register, mut kept } = both;
+    match item {
+        Item::Grant(l) => answered(rt, "grant", both, kept.grant(map, register, l)),
+        Item::Cancel(sign) => answered(rt, "cancel", both, kept.cancel(map, register, sign)),
+        Item::Propose(draw) => {
+            print(rt, "propose", u64::from(draw))?;
+            proposed(rt, kept.propose(draw))?;
+            Ok(both)
         }
-        i += 1;
-    }
-    Ok(())
-}
-
-fn given_to(rt: &impl Print, a: AreaAnswer) -> io::Result<()> {
-    print(rt, " area", a.number as u64)?;
-    print(rt, "  blocks", a.blocks)?;
-    let cells = a.cells;
-    print(rt, "  cells", cells.0)?;
-    let gets = a.gets;
-    match gets {
-        Gets::Nothing => line(rt, "  nothing"),
-        Gets::Whole => line(rt, "  whole"),
-        Gets::RoundedUp => line(rt, "  rounded up"),
-        Gets::Share(amount) => print(rt, "  share", amount.0),
+        Item::Entry(place, entry) => {
+            if place < 32 {
+                kept.areas[usize::from(place)] = entry;
+            }
+            Ok(Next { register, kept })
+        }
+        Item::Count(count) => {
+            kept.count = count;
+            Ok(Next { register, kept })
+        }
+        Item::Empty => {
+            line(rt, "empty")?;
+            Ok(Next {
+                register: Register::empty(),
+                kept,
+            })
+        }
     }
 }
 
 // The record's count, and its entries that aren't all 0.
-fn show(rt: &impl Print, kept: Record) -> io::Result<()> {
+fn show(rt: &impl Print, kept: &Record) -> io::Result<()> {
     print(rt, "kept", kept.count)?;
-    let areas = kept.areas;
-    let mut i: usize = 0;
-    while i < 32 {
-        let k = areas[i];
-        show_entry(rt, i, k)?;
-        i += 1;
+    for (place, k) in kept.areas.iter().enumerate() {
+        show_entry(rt, place, *k)?;
     }
     Ok(())
 }
 
 fn show_entry(rt: &impl Print, place: usize, k: Kept) -> io::Result<()> {
-    let people = k.population;
-    let mhz_pops = k.mhz_pops;
-    let cells = k.cells;
-    let any = (k.number as u64) | (k.weight as u64) | people.0 | mhz_pops.0 | cells.0;
-    if any == 0 {
+    let sums = k.population.0 | k.mhz_pops.0 | k.cells.0;
+    if k.number == 0 && k.weight == 0 && sums == 0 {
         return Ok(());
     }
     print(rt, " entry", place as u64)?;
-    print(rt, "  number", k.number as u64)?;
-    print(rt, "  weight", k.weight as u64)?;
-    print(rt, "  population", people.0)?;
-    print(rt, "  mhz-pops", mhz_pops.0)?;
-    print(rt, "  cells", cells.0)
-}
-
-// The byte at a position, 0 past the end.
-fn byte_at(s: &[u8], at: usize) -> u8 {
-    if at < s.len() { s[at] } else { 0 }
-}
-
-// The u32 at a position, 0 past the end.
-fn u32_at(s: &[u8], at: usize) -> u32 {
-    match fields::u32_field(s, at, 0, 4294967295) {
-        Field::Bad(_) => 0,
-        Field::Good(v, _) => v,
-    }
-}
-
-// The u64 at a position of an item.
-fn u64_at(s: &[u8], at: usize) -> u64
-    requires { at < 32 }
-{
-    u32_at(s, at) as u64 + 4294967296 * (u32_at(s, at + 4) as u64)
-}
-
-fn line(rt: &impl Print, text: &str) -> io::Result<()> {
-    println!(rt; "{text}")
-}
-
-fn print(rt: &impl Print, text: &str, n: u64) -> io::Result<()> {
-    println!(rt; "{text} {n}")
+    print(rt, "  number", u64::from(k.number))?;
+    print(rt, "  weight", u64::from(k.weight))?;
+    print(rt, "  population", k.population.0)?;
+    print(rt, "  mhz-pops", k.mhz_pops.0)?;
+    print(rt, "  cells", k.cells.0)
 }

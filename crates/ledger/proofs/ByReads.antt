@@ -1,13 +1,16 @@
 -- The engine's functions once more, by what Rattle itself reads off their contracts: `Pre` is what a function may assume and `Post` is what
 -- it has to show. The interface is the same, so demand 3 holds of this one too. Assumes nothing.
 use Rattle.std.proofs.Common.{◌≡◌, refl, subst}
-use Rattle.register.specs.declared.GrantAnswer.{GrantAnswer}
-use Rattle.register.specs.declared.CancelAnswer.{CancelAnswer}
+use Rattle.std.specs.Prelude.{Result}
+use Rattle.register.specs.declared.Register.{Register}
+use Rattle.register.specs.declared.GrantRefusal.{GrantRefusal}
+use Rattle.register.specs.declared.NotInForce.{NotInForce}
 use Rattle.register.specs.Rules.{grant_number, cancel_number}
+use Rattle.register.specs.Promises.{next_of, refusal_of}
 use Rattle.register.proofs.Register.empty.Reads as empty-reads
 use Rattle.register.proofs.Register.grant.Reads as grant-reads
 use Rattle.register.proofs.Register.cancel.Reads as cancel-reads
-use Rattle.proposal.specs.Promises.{refusal_number, Answers}
+use Rattle.proposal.specs.Promises.{answer_means, Answers}
 use Rattle.proposal.proofs.propose.Reads as propose-reads
 use Rattle.footprint.specs.Promises.{means}
 use Rattle.footprint.proofs.footprint.Reads as footprint-reads
@@ -20,21 +23,21 @@ use Rattle.ledger.proofs.Engine.{engine-demand-3}
 
 abbrev function : (c : Call) → Function c
 function (grant s g w) = record {
-  Answer = GrantAnswer;
-  number = grant_number;
-  Says = λ a n. grant_number a ≡ n;
+  Answer = Result Register GrantRefusal;
+  number = refusal_of grant_number;
+  Says = λ a n. refusal_of grant_number a ≡ n;
   Asks = λ map r. grant-reads.Pre tt (r, (licence s g w, tt));
-  Step = λ map r a next. grant-reads.Post tt (r, (licence s g w, tt)) (record { next = next; answer = a }) (r, (licence s g w, tt));
+  Step = λ map r a next. grant-reads.Post tt (r, (licence s g w, tt)) a (r, (licence s g w, tt)) × (next ≡ next_of r a);
 }
 function (cancel s) = record {
-  Answer = CancelAnswer;
-  number = cancel_number;
-  Says = λ a n. cancel_number a ≡ n;
+  Answer = Result Register NotInForce;
+  number = refusal_of cancel_number;
+  Says = λ a n. refusal_of cancel_number a ≡ n;
   Asks = λ map r. cancel-reads.Pre tt (r, (s, tt));
-  Step = λ map r a next. cancel-reads.Post tt (r, (s, tt)) (record { next = next; answer = a }) (r, (s, tt));
+  Step = λ map r a next. cancel-reads.Post tt (r, (s, tt)) a (r, (s, tt)) × (next ≡ next_of r a);
 }
 function (propose draw) =
-    proposing draw (λ a. refusal_number a.outcome) (λ a p. Answers p a) propose-reads.Pre propose-reads.Post
+    proposing draw (λ a. (answer_means a).refused) (λ a p. Answers p a) propose-reads.Pre propose-reads.Post
 function (footprint draw mask table) = outlining draw mask table means footprint-reads.Pre footprint-reads.Post
 
 same-function : (c : Call) → by-contracts.function c ≡ function c

@@ -2,5 +2,6 @@
 -- ensures pins it.
 pub mod Engine
 pub mod ByReads
+pub mod CallLaws
 pub mod PlayLaws
 pub mod ToldLaws

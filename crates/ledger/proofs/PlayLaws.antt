@@ -1,24 +1,18 @@
--- Laws of a list that is played: the item of eight words, one call more at the end, and the loop of `play`. Assumes nothing.
+-- Laws of a list that is played: one call more at the end, and the loop of `play`. Assumes nothing.
 use Prim.Native.Nat.{ℕ, ◌+◌, ◌*◌, ◌/◌, ◌≤◌, ◌<◌}
 use mathlib.Core.Path.{◌≡◌, refl, sym, ap, subst, ◌∙◌}
-use mathlib.Core.Bool.{true, false, not, true≢false}
+use mathlib.Core.Bool.{Bool, not}
 use mathlib.Core.List.{List, [], ◌∷◌, ◌++◌}
 use native.Mathlib.Omega.{arith}
 use lib.Dec.{eqb}
-use lib.ListN.{length, get_or}
-use borrow.Author.Tests.{eq-eqb, ne_eqb}
+use lib.ListN.{length}
 use Rattle.lists.specs.Sums.{flag}
 use Rattle.lists.proofs.SumLaws.{total-append}
-use Rattle.register.specs.declared.Ground.{Ground}
 use Rattle.register.specs.declared.Register.{Register}
-use Rattle.ledger.specs.declared.Next.{Next}
-use Rattle.demand3.specs.Calls.{without, mhz, Call, grant, cancel, propose, footprint}
+use Rattle.demand3.specs.Calls.{Call}
 use Rattle.demand3.specs.Interface.{number_of, Run, done, step}
 use Rattle.ledger.specs.Engine.{engine, function, Made}
 use Rattle.ledger.specs.Played.{
-  ground_at,
-  width_at,
-  Item,
   call,
   unknown,
   item_at,
@@ -30,54 +24,10 @@ use Rattle.ledger.specs.Played.{
   refusals,
   PlayDone,
 }
-use Rattle.ledger.specs.Code.{CallDone, NoneDone, ItemDone}
+use Rattle.ledger.specs.Code.{CallDone}
+use Rattle.ledger.proofs.CallLaws.{flag-le}
 use Rattle.demand3.proofs.Lists.{last-holds}
 use Rattle.ledger.proofs.Engine.{engine-demand-3}
-
--- ---- the item of eight words, by its kind
-
-module _ (words : List ℕ) (at : ℕ) (mask table : List ℕ) where
-  pub item-grant : get_or words at 0 ≡ 0 → (g : Ground) → g ≡ ground_at words at
-      → call (grant (get_or words (at + 1) 0) g without) ≡ item_at words at mask table
-  unfolding item_at
-  item-grant k g e =
-      rw (eq-eqb (get_or words at 0) 0 k) (ap (λ (x : Ground). call (grant (get_or words (at + 1) 0) x without)) e)
-
-  pub item-width : get_or words at 0 ≡ 4 → (g : Ground) → g ≡ ground_at words at
-      → call (grant (get_or words (at + 1) 0) g (mhz (width_at words at))) ≡ item_at words at mask table
-  unfolding item_at
-  item-width k g e = rw k (ap (λ (x : Ground). call (grant (get_or words (at + 1) 0) x (mhz (width_at words at)))) e)
-
-  pub item-cancel : get_or words at 0 ≡ 1 → call (cancel (get_or words (at + 1) 0)) ≡ item_at words at mask table
-  unfolding item_at
-  item-cancel k = rw k
-
-  pub item-propose : get_or words at 0 ≡ 2 → call (propose (get_or words (at + 1) 0)) ≡ item_at words at mask table
-  unfolding item_at
-  item-propose k = rw k
-
-  pub item-footprint : get_or words at 0 ≡ 3 → call (footprint (get_or words (at + 1) 0) mask table) ≡ item_at words at mask table
-  unfolding item_at
-  item-footprint k = rw k
-
-  pub item-unknown : (get_or words at 0 ≡ 0 → ⊥) → (get_or words at 0 ≡ 1 → ⊥) → (get_or words at 0 ≡ 2 → ⊥)
-      → (get_or words at 0 ≡ 3 → ⊥) → (get_or words at 0 ≡ 4 → ⊥) → unknown ≡ item_at words at mask table
-  unfolding item_at
-  item-unknown a b c d e =
-      let word = get_or words at 0 in
-      rw (ne_eqb word 0 a, ne_eqb word 1 b, ne_eqb word 2 c, ne_eqb word 3 d, ne_eqb word 4 e)
-
--- what was done of an item, by the test whether a call was made
-module _ (map : List ℕ) (r : Register) (mask after table entries : List ℕ) (n : Next) where
-  item-made : (item : Item) → ItemDone map r item mask after table entries n → not n.made ≡ false →
-      (c : Call) × (item ≡ call c) × CallDone map r c mask after table entries n
-  item-made (call c) d t = (c, refl, d)
-  item-made unknown d t = absurd (true≢false (sym (ap not d.none) ∙ t))
-
-  item-none : (item : Item) → ItemDone map r item mask after table entries n → not n.made ≡ true →
-      (item ≡ unknown) × NoneDone r mask after table entries n
-  item-none (call c) d t = absurd (true≢false (sym t ∙ ap not d.made))
-  item-none unknown d t = (refl, d)
 
 -- ---- one call more
 
@@ -148,17 +98,17 @@ module _ (map words mask₀ table₀ : List ℕ) where
   }
 
   module _ {mask table : List ℕ} {r : Register} {refused i : ℕ} (p : Playing map words mask₀ table₀ mask table r refused i) where
-    pub playing-turns : i < length words / 8 → (n : Next) (after entries : List ℕ) (one : ℕ) → not n.made ≡ false
-        → ItemDone map r (item_at words (8 * i) mask table) mask after table entries n
-        → (one ≡ flag (not (eqb n.number 0))) × (one ≤ 1) → length after ≡ length mask → length entries ≡ length table
-        → Playing map words mask₀ table₀ after entries n.register (refused + one) (i + 1)
-    playing-turns below n after entries one made item is same-mask same-table =
-        let (c, says, d) = item-made map r mask after table entries n (item_at words (8 * i) mask table) item made in
+    pub playing-turns : (c : Call) → item_at words (8 * i) mask table ≡ call c → i < length words / 8
+        → {after entries : List ℕ} {next : Register} {said : Bool} {total : ℕ}
+        → CallDone map r c (record { mask = mask; after = after; table = table; entries = entries; next = next; refused = said })
+        → total ≡ refused + flag said → length after ≡ length mask → length entries ≡ length table
+        → Playing map words mask₀ table₀ after entries next total (i + 1)
+    playing-turns c says below {after} {entries} {next} {said} {total} d sums same-mask same-table =
         let m : Made = record { call = c; answer = d.answer } in
         let size = p.size in
         let few = p.few in
-        let most = is.1 in
-        let is_one : one ≡ flag (not (eqb (number_of m) 0)) = is.0 ∙ ap (λ (k : ℕ). flag (not (eqb k 0))) d.refused in
+        let one = flag-le said in
+        let is_one : flag said ≡ flag (not (eqb (number_of m) 0)) = ap flag d.refused in
         let counted = p.counted in
         let sum = total-append (λ (x : Made). flag (not (eqb (number_of x) 0))) p.made (m ∷ []) in
         record {
@@ -199,14 +149,3 @@ module _ (map words mask₀ table₀ : List ℕ) where
           claim = claim;
           register = last-holds [] p.run claim.registers;
         }
-
-    -- an item that is no call ends the list, and leaves what there is
-    pub playing-stops : (n : Next) (after entries : List ℕ) → not n.made ≡ true
-        → ItemDone map r (item_at words (8 * i) mask table) mask after table entries n
-        → PlayDone map words mask₀ after table₀ entries (record { register = r; calls = i; refused = refused })
-    playing-stops n after entries none item =
-        let (is, d) = item-none map r mask after table entries n (item_at words (8 * i) mask table) item none in
-        subst (λ (m : List ℕ). PlayDone map words mask₀ m table₀ entries (record { register = r; calls = i; refused = refused }))
-        (sym d.masks)
-        (subst (λ (t : List ℕ). PlayDone map words mask₀ mask table₀ t (record { register = r; calls = i; refused = refused }))
-        (sym d.tables) (playing-ends (λ below. is)))

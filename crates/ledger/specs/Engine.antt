@@ -1,13 +1,15 @@
 -- Document 01, "The list of demand 3", through the engine's own functions. What is known of each is its own contract, read off the clauses
 -- in the source, so nothing is said here of the functions a second time. Assumes nothing.
-use Rattle.std.specs.Prelude.{◌≡◌}
-use Rattle.register.specs.declared.GrantAnswer.{GrantAnswer}
-use Rattle.register.specs.declared.CancelAnswer.{CancelAnswer}
+use Rattle.std.specs.Prelude.{◌≡◌, Result}
+use Rattle.register.specs.declared.Register.{Register}
+use Rattle.register.specs.declared.GrantRefusal.{GrantRefusal}
+use Rattle.register.specs.declared.NotInForce.{NotInForce}
 use Rattle.register.specs.Rules.{grant_number, cancel_number}
+use Rattle.register.specs.Promises.{next_of, refusal_of}
 use Rattle.register.specs.contracts.Register.empty as empty-fn
 use Rattle.register.specs.contracts.Register.grant as grant-fn
 use Rattle.register.specs.contracts.Register.cancel as cancel-fn
-use Rattle.proposal.specs.Promises.{refusal_number, Answers}
+use Rattle.proposal.specs.Promises.{answer_means, Answers}
 use Rattle.proposal.specs.contracts.propose as propose-fn
 use Rattle.footprint.specs.Promises.{means}
 use Rattle.footprint.specs.contracts.footprint as footprint-fn
@@ -37,25 +39,25 @@ footprint-contract = record { requires = λ lives given. nothing; ensures = λ l
 -- ---- the interface
 
 abbrev pub function : (c : Call) → Function c
--- "The register": `register.grant(l)`; without a width l is `Licence::full(s, g)`
+-- "The register": `register.grant(l)`; without a width l is `Licence::full(s, g)`. After a refusal the caller goes on with its register
 function (grant s g w) = record {
-  Answer = GrantAnswer;
-  number = grant_number;
-  Says = λ a n. grant_number a ≡ n;
+  Answer = Result Register GrantRefusal;
+  number = refusal_of grant_number;
+  Says = λ a n. refusal_of grant_number a ≡ n;
   Asks = λ map r. Asks grant-contract tt (r, (licence s g w, tt));
-  Step = λ map r a next. Ensures grant-contract tt (r, (licence s g w, tt)) (record { next = next; answer = a }) (r, (licence s g w, tt));
+  Step = λ map r a next. Ensures grant-contract tt (r, (licence s g w, tt)) a (r, (licence s g w, tt)) × (next ≡ next_of r a);
 }
 -- "The register": `register.cancel(s)`
 function (cancel s) = record {
-  Answer = CancelAnswer;
-  number = cancel_number;
-  Says = λ a n. cancel_number a ≡ n;
+  Answer = Result Register NotInForce;
+  number = refusal_of cancel_number;
+  Says = λ a n. refusal_of cancel_number a ≡ n;
   Asks = λ map r. Asks cancel-contract tt (r, (s, tt));
-  Step = λ map r a next. Ensures cancel-contract tt (r, (s, tt)) (record { next = next; answer = a }) (r, (s, tt));
+  Step = λ map r a next. Ensures cancel-contract tt (r, (s, tt)) a (r, (s, tt)) × (next ≡ next_of r a);
 }
 -- "The proposal": `propose(map, r, draw)`
 function (propose draw) =
-    proposing draw (λ a. refusal_number a.outcome) (λ a p. Answers p a) (Asks propose-contract) (Ensures propose-contract)
+    proposing draw (λ a. (answer_means a).refused) (λ a p. Answers p a) (Asks propose-contract) (Ensures propose-contract)
 -- "The footprint": `footprint(map, r, draw, mask, table)`
 function (footprint draw mask table) = outlining draw mask table means (Asks footprint-contract) (Ensures footprint-contract)
 

@@ -1,14 +1,10 @@
 // Document 01, "The list of demand 3": a list of calls on one register, over one map. The way in is play.
 #![tactic(auto)]
 
-ghost use Rattle.std.specs.Prelude.{ℕ, ◌+◌, ◌≤◌, ◌≡◌, not, List, eqb, length};
-ghost use Rattle.lists.specs.Sums.{flag};
-ghost use Rattle.register.specs.declared.Ground.{Ground};
-ghost use Rattle.demand3.specs.Calls.{Width, licence, grant, cancel, propose, footprint};
+ghost use Rattle.std.specs.Prelude.{ℕ, ◌≡◌, List, length};
 ghost use Rattle.ledger.specs.Played.{ground_at, item_at, PlayDone};
-ghost use Rattle.ledger.specs.Code.{CallDone, ItemDone};
+ghost use Rattle.ledger.specs.Code.{call_means, item_means, took_over, CallDone};
 
-use map::fields;
 use register::{GeoBox, Ground, Licence, Register};
 
 // What comes of a list: the register after its last call, how many calls were made, and how many of them were refused.
@@ -19,143 +15,77 @@ pub struct Played {
     pub refused: usize,
 }
 
-// What an item of the list leaves: whether a call was made, the register, and document 01's number of its refusal, 0 where it is not
-// refused.
-#[derive(Clone, Copy)]
-struct Next {
-    made: bool,
-    register: Register,
-    number: u32,
+// A call of the list. A grant without a width is of the full one.
+#[derive(Clone, Copy, Debug, PartialEq, Eq)]
+enum Call {
+    Grant(u32, Ground, Option<u32>),
+    Cancel(u32),
+    Propose(u32),
+    Footprint(u32),
 }
 
-// 1 for the number of a refusal, else 0.
-fn one_refused(number: u32) -> usize
-    ensures { (result ≡ flag (not (eqb number 0))) × (result ≤ 1) }
+// The ground of a grant, in the eight words of an item.
+fn ground_in(item: &[u32]) -> Ground
+    requires { length item.now ≡ 8 }
+    ensures { result ≡ ground_at item.now 0 }
 {
-    if number == 0 { 0 } else { 1 }
-}
-
-// The ground of a grant, in the eight words at a position.
-fn ground_at(calls: &[u32], at: usize) -> Ground
-    requires { at + 8 ≤ length calls.now }
-    ensures { result ≡ ground_at calls.now at }
-{
-    if calls[at + 2] == 0 {
-        return Ground::Area((calls[at + 3] % 65536) as u16);
+    if item[2] == 0 {
+        return Ground::Area((item[3] % 65536) as u16);
     }
-    let south = fields::signed(calls[at + 4]);
-    let north = fields::signed(calls[at + 5]);
-    let west = fields::signed(calls[at + 6]);
-    let east = fields::signed(calls[at + 7]);
     Ground::Box(GeoBox {
-        south,
-        north,
-        west,
-        east,
+        south: item[4].cast_signed(),
+        north: item[5].cast_signed(),
+        west: item[6].cast_signed(),
+        east: item[7].cast_signed(),
     })
 }
 
-// A grant, with a width or without one.
-fn play_grant(register: Register, l: Licence) -> Next
-    ensures { (map mask table : List ℕ) (s : ℕ) (g : Ground) (w : Width) → licence s g w ≡ l →
-        CallDone map register (grant s g w) mask mask table table result }
+// The call in the eight words of an item, by its kind; None where no call has that kind.
+fn call_in(item: &[u32]) -> Option<Call>
+    requires { length item.now ≡ 8 }
+    ensures { (mask table : List ℕ) → item_means result mask table ≡ item_at item.now 0 mask table }
 {
-    let granted = register.grant(l);
-    let answer = granted.answer;
-    let next = granted.next;
-    Next {
-        made: true,
-        register: next,
-        number: answer.number(),
+    let word = item[1];
+    match item[0] {
+        0 => Some(Call::Grant(word, ground_in(item), None)),
+        1 => Some(Call::Cancel(word)),
+        2 => Some(Call::Propose(word)),
+        3 => Some(Call::Footprint(word)),
+        4 => Some(Call::Grant(word, ground_in(item), Some(item[3] / 65536))),
+        _ => None,
     }
 }
 
-// A cancellation.
-fn play_cancel(register: Register, call_sign: u32) -> Next
-    ensures { (map mask table : List ℕ) → CallDone map register (cancel call_sign) mask mask table table result }
+// Goes on with the register of a grant or a cancellation, and says whether that was refused.
+fn take_over<E: Copy>(register: &mut Register, answer: Result<Register, E>) -> bool
+    ensures { took_over register.old answer register.new result }
 {
-    let cancelled = register.cancel(call_sign);
-    let answer = cancelled.answer;
-    let left = cancelled.next;
-    Next {
-        made: true,
-        register: left,
-        number: answer.number(),
-    }
-}
-
-// A proposal, which leaves the register.
-fn play_proposal(map: &[u8], register: Register, draw: u32) -> Next
-    ensures { (mask table : List ℕ) → CallDone map.now register (propose draw) mask mask table table result }
-{
-    let p = proposal::propose(map, register, draw);
-    let outcome = p.outcome;
-    Next {
-        made: true,
-        register,
-        number: outcome.refusal(),
-    }
-}
-
-// A footprint, which leaves the register.
-fn play_footprint(
-    map: &[u8],
-    register: Register,
-    draw: u32,
-    mask: &mut [u8],
-    table: &mut [u16],
-) -> Next
-    ensures { CallDone map.now register (footprint draw mask.old table.old)
-        mask.old mask.new table.old table.new result }
-{
-    let answer = footprint::footprint(map, register, draw, mask, table);
-    Next {
-        made: true,
-        register,
-        number: answer.refusal(),
-    }
-}
-
-// The call in the eight words at a position, by its kind; none where no call has that kind.
-fn play_item(
-    map: &[u8],
-    register: Register,
-    calls: &[u32],
-    at: usize,
-    mask: &mut [u8],
-    table: &mut [u16],
-) -> Next
-    requires { at + 8 ≤ length calls.now }
-    ensures { ItemDone map.now register
-        (item_at calls.now at mask.old table.old)
-        mask.old mask.new table.old table.new result }
-{
-    let kind = calls[at];
-    let word = calls[at + 1];
-    match kind {
-        0 => {
-            let ground = ground_at(calls, at);
-            play_grant(register, Licence::full(word, ground))
+    match answer {
+        Ok(next) => {
+            *register = next;
+            false
         }
-        1 => play_cancel(register, word),
-        2 => play_proposal(map, register, word),
-        3 => play_footprint(map, register, word, mask, table),
-        4 => {
-            let ground = ground_at(calls, at);
-            play_grant(
-                register,
-                Licence {
-                    call_sign: word,
-                    ground,
-                    width: calls[at + 3] / 65536,
-                },
-            )
+        Err(_) => true,
+    }
+}
+
+// Makes a call, and says whether it was refused. A proposal and a footprint leave the register.
+fn make(call: Call, map: &[u8], register: &mut Register, mask: &mut [u8], table: &mut [u16]) -> bool
+    ensures { CallDone map.now register.old (call_means call mask.old table.old)
+        (record { mask = mask.old; after = mask.new; table = table.old; entries = table.new; next = register.new; refused = result }) }
+{
+    match call {
+        Call::Grant(call_sign, ground, width) => {
+            let l = Licence {
+                call_sign,
+                ground,
+                width: width.unwrap_or(Licence::FULL_WIDTH),
+            };
+            take_over(register, register.grant(l))
         }
-        _ => Next {
-            made: false,
-            register,
-            number: 0,
-        },
+        Call::Cancel(call_sign) => take_over(register, register.cancel(call_sign)),
+        Call::Propose(draw) => proposal::propose(map, *register, draw).is_err(),
+        Call::Footprint(draw) => footprint::footprint(map, *register, draw, mask, table).is_err(),
     }
 }
 
@@ -168,24 +98,19 @@ pub fn play(map: &[u8], calls: &[u32], mask: &mut [u8], table: &mut [u16]) -> Pl
     ensures { PlayDone map.now calls.now mask.old mask.new
         table.old table.new result }
 {
-    let count = calls.len() / 8;
     let mut register = Register::empty();
+    let mut made: usize = 0;
     let mut refused: usize = 0;
-    let mut i: usize = 0;
-    while i < count {
-        let before = register;
-        let next = play_item(map, before, calls, 8 * i, mask, table);
-        if !next.made {
+    for item in calls.chunks_exact(8) {
+        let Some(call) = call_in(item) else {
             break;
-        }
-        refused += one_refused(next.number);
-        let after = next.register;
-        register = after;
-        i += 1;
+        };
+        refused += usize::from(make(call, map, &mut register, mask, table));
+        made += 1;
     }
     Played {
         register,
-        calls: i,
+        calls: made,
         refused,
     }
 }

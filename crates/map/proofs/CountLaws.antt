@@ -1,5 +1,6 @@
 -- Laws of what is counted: a row counts what its cells count, and the counts of an area of an accepted map are small. Assumes nothing.
-use Rattle.std.proofs.Common.{◌≡◌, ℕ, zero, suc, ◌+◌, ◌*◌, ◌/◌, ◌<◌, ◌≤◌, Bool, true, false, ◌&&◌, List, [], ◌∷◌, length, get_or, ℤ, pos}
+use Rattle.std.proofs.Common.{◌≡◌, ℕ, zero, suc, ◌+◌, ◌*◌, ◌/◌, ◌<◌, ◌≤◌, Bool, true, false, cond, ◌&&◌, Some, None, List, [], ◌∷◌, length}
+use Rattle.std.proofs.Common.{get_or, ℤ, pos}
 use Rattle.std.proofs.Common.{sym, refl, ap, ◌∙◌, subst, mul-le-mul, mul-zero, mul-suc, arith}
 use Rattle.lists.specs.Sums.{total, flag, count, every_below, sum_below, All}
 use Rattle.lists.proofs.Tests.{first_of, second-of}
@@ -11,8 +12,8 @@ use Rattle.map.specs.Reading.{Read, bad, good, map_read}
 use Rattle.map.specs.Format.{Place, gap, cell, Area, people_at, bit_map_bytes, read_row}
 use Rattle.map.specs.Cells.{cell_at, cell_within, cells_within, cells_of, cells_from, read_cells, RowTaken}
 use Rattle.boxes.specs.Boxes.{box_at, boxes_over, width_over, Narrow}
-use Rattle.boxes.specs.Rows.{cell_fine, RowCounted}
-use Rattle.boxes.specs.declared.RowCounts.{RowCounts}
+use Rattle.boxes.specs.Rows.{cell_fine, row_fine, RowSums}
+use Rattle.boxes.specs.declared.rows.RowCounts.{RowCounts}
 use Rattle.map.specs.Counting.{
   cells_at,
   boxed_mhz_pops,
@@ -103,60 +104,48 @@ within-every s (suc n) at =
     ∙ ap (λ (b : Bool). b && cell_within (cell_at s (at + 12 * n))) (within-every s n at)
 
 -- what cells count that were taken apart and held against boxes
-module _
-    (s : List ℕ)
-    (start n : ℕ)
-    {edges : List ℤ}
-    {widths ps : List ℕ}
-    {xs ys : List ℤ}
-    {r : RowCounts}
-    (taken : RowTaken s start n ps xs ys)
-    (counted : RowCounted edges widths ps xs ys n r)
-  where
-    abbrev cell_at' : ℕ → Cell
-    cell_at' k = cell_at s (start + 12 * k)
+module _ (s : List ℕ) (start n : ℕ) {ps : List ℕ} {xs ys : List ℤ} (taken : RowTaken s start n ps xs ys) where
+  pub fine-within : row_fine ps xs ys n ≡ cells_within (cells_from s start n)
+  unfolding cell_within
+  fine-within =
+      every-same
+      (λ k. cell_fine (get_or ps k 0) (get_or xs k (pos 0)) (get_or ys k (pos 0))) (λ k. cell_within (cell_at s (start + 12 * k))) n
+      (λ k h i. cell_fine (taken.people k h i) (taken.latitude k h i) (taken.longitude k h i))
+      ∙ sym (within-every s n start)
 
-    -- the boxes over cell k
-    over-at : (k : ℕ) → k < n
-        → boxes_over edges (get_or xs k (pos 0)) (get_or ys k (pos 0)) ≡ boxes_over edges (cell_at' k).latitude (cell_at' k).longitude
-    over-at k h = λ i. boxes_over edges (taken.latitude k h i) (taken.longitude k h i)
+  pub boxed-counts : {edges : List ℤ} {widths : List ℕ} {r : RowCounts} → RowSums edges widths ps xs ys n r → start + 12 * n ≤ length s
+      → good (counts r.people n r.boxed_mhz_pops r.boxed_cells) (start + 12 * n)
+      ≡ map_read (cell_counts edges widths) (read_cells s n start)
+  boxed-counts {edges} {widths} {r} counted room =
+      let here : ℕ → Cell = λ k. cell_at s (start + 12 * k) in
+      let cells = cells_from s start n in
+      let always : ℕ → Bool = λ _. true in
+      let over : Cell → ℕ = λ c. boxes_over edges c.latitude c.longitude in
+      let width : Cell → ℕ = λ c. width_over edges widths c.latitude c.longitude in
+      let people = counted.people
+      ∙ sum_same (λ k. get_or ps k 0) (λ k. (here k).people) always always n (λ k h. taken.people k h)
+      ∙ sym (cells-sum s (λ c. c.people) n start) in
+      let number : n ≡ total (λ c. 1) cells = sym (cells-length s n start) ∙ length-total cells in
+      let pops = counted.boxed-mhz-pops
+      ∙ sum_same (λ k. get_or ps k 0 * width_over edges widths (get_or xs k (pos 0)) (get_or ys k (pos 0)))
+      (λ k. (here k).people * width (here k)) always always n
+      (λ k h i. taken.people k h i * width_over edges widths (taken.latitude k h i) (taken.longitude k h i))
+      ∙ sym (cells-sum s (λ c. c.people * width c) n start) in
+      let under = counted.boxed-cells
+      ∙ sum_same (λ k. boxes_over edges (get_or xs k (pos 0)) (get_or ys k (pos 0))) (λ k. over (here k)) always always n
+      (λ k h i. boxes_over edges (taken.latitude k h i) (taken.longitude k h i))
+      ∙ sym (cells-sum s over n start) in
+      (λ i. good (counts (people i) (number i) (pops i) (under i)) (start + 12 * n))
+      ∙ ap (map_read (cell_counts edges widths)) (sym (cells-fine s n start room (sym fine-within ∙ counted.fine)))
 
-    -- their widths, added
-    width-at : (k : ℕ) → k < n
-        → width_over edges widths (get_or xs k (pos 0)) (get_or ys k (pos 0))
-        ≡ width_over edges widths (cell_at' k).latitude (cell_at' k).longitude
-    width-at k h = λ i. width_over edges widths (taken.latitude k h i) (taken.longitude k h i)
+-- what a sum of cells tells that is there only if they are within their limits
+pub told_fine : (t : Bool) {p q : ℕ} → Some p ≡ cond t (Some q) None → (t ≡ true) × (p ≡ q)
+told_fine true e = (refl, cc)
+told_fine false e = cc
 
-    pub fine-within : r.fine ≡ cells_within (cells_from s start n)
-    unfolding cell_within
-    fine-within =
-        counted.fine
-        ∙ every-same
-        (λ k. cell_fine (get_or ps k 0) (get_or xs k (pos 0)) (get_or ys k (pos 0))) (λ k. cell_within (cell_at' k)) n
-        (λ k h i. cell_fine (taken.people k h i) (taken.latitude k h i) (taken.longitude k h i))
-        ∙ sym (within-every s n start)
-
-    pub boxed-counts : start + 12 * n ≤ length s → r.fine ≡ true
-        → good (counts r.people n r.boxed_mhz_pops r.boxed_cells) (start + 12 * n)
-        ≡ map_read (cell_counts edges widths) (read_cells s n start)
-    boxed-counts room t =
-        let cells = cells_from s start n in
-        let always : ℕ → Bool = λ _. true in
-        let people = counted.people t
-        ∙ sum_same (λ k. get_or ps k 0) (λ k. (cell_at' k).people) always always n (λ k h. taken.people k h)
-        ∙ sym (cells-sum s (λ c. c.people) n start) in
-        let number : n ≡ total (λ c. 1) cells = sym (cells-length s n start) ∙ length-total cells in
-        let pops = counted.boxed-mhz-pops t
-        ∙ sum_same (λ k. get_or ps k 0 * width_over edges widths (get_or xs k (pos 0)) (get_or ys k (pos 0)))
-        (λ k. (cell_at' k).people * width_over edges widths (cell_at' k).latitude (cell_at' k).longitude) always always n
-        (λ k h i. taken.people k h i * width-at k h i)
-        ∙ sym (cells-sum s (λ c. c.people * width_over edges widths c.latitude c.longitude) n start) in
-        let over = counted.boxed-cells t
-        ∙ sum_same (λ k. boxes_over edges (get_or xs k (pos 0)) (get_or ys k (pos 0)))
-        (λ k. boxes_over edges (cell_at' k).latitude (cell_at' k).longitude) always always n (λ k h. over-at k h)
-        ∙ sym (cells-sum s (λ c. boxes_over edges c.latitude c.longitude) n start) in
-        (λ i. good (counts (people i) (number i) (pops i) (over i)) (start + 12 * n))
-        ∙ ap (map_read (cell_counts edges widths)) (sym (cells-fine s n start room (sym fine-within ∙ t)))
+pub told_past : (t : Bool) (q : ℕ) → None ≡ cond t (Some q) None → t ≡ false
+told_past true q e = cc
+told_past false q e = refl
 
 -- a cell past its limits refuses them
 pub past-counts : (s : List ℕ) (n start : ℕ) (edges : List ℤ) (widths : List ℕ) → start + 12 * n ≤ length s

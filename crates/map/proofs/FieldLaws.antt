@@ -1,55 +1,44 @@
 -- Laws of fields: a value that was read and tested, by the test of its room. Assumes nothing.
 use Rattle.std.proofs.Common.{◌≡◌, ℕ, zero, suc, ◌+◌, ◌-◌, ◌*◌, ◌/◌, ◌%◌, ◌^◌, ◌<◌, ◌≤◌, Bool, true, false, cond, eqb, leb, List, length}
-use Rattle.std.proofs.Common.{get_or, pos, negsuc, ◌-ℤ◌, sym, refl, ap, ◌∙◌, pow-suc, zero-add, arith, le-leb, leb-false, leb-true}
+use Rattle.std.proofs.Common.{[], ◌∷◌, ◌++◌, get_or, take, drop, sym, refl, ap, ◌∙◌, add-one, drop-cons, arith, le-leb, leb-false, leb-true}
+use Rattle.std.proofs.Common.{w32, Result, Ok, Err, Option, None}
+use Rattle.std.specs.Int.{from_le_bytes}
 use native.Mathlib.Nat.{zero-div}
 use borrow.Author.Tests.{lt-leb}
 use lib.ListN.{get_or-eq_default}
 use Rattle.lists.proofs.Tests.{takes, leaves}
+use Rattle.std.specs.Result.{IsErrAnd}
+use Rattle.std.specs.Option.{ok_or}
+use Rattle.map.specs.declared.Fault.{Fault}
 use Rattle.map.specs.Reading.{Read, bad, good, bind}
 use Rattle.map.specs.Format.{number_at, field, bit_at, clear_from, bit_map_bytes, bit_map_field}
 
--- ---- the bytes of a number, from the last to the first
+-- ---- the bytes of a number
 
--- the invariant of the loop, with the bytes from k on read
-pub record Numbered (s : List ℕ) (at n k v : ℕ) : Type 0 where
-  pub inside : k ≤ n
-  pub small : v < 256 ^ (n - k)
-  pub is : v ≡ number_at s (at + k) (n - k)
+-- the n bytes at a position, one by one
+abbrev bytes_at : List ℕ → (at n : ℕ) → List ℕ
+bytes_at s at zero = []
+bytes_at s at (suc n) = get_or s at 0 ∷ bytes_at s (suc at) n
 
-pub number-starts : (s : List ℕ) (at n : ℕ) → Numbered s at n n 0
+taken : (s : List ℕ) (at n : ℕ) → at + n ≤ length s → take n (drop at s) ≡ bytes_at s at n
+taken s at zero h = refl
+taken s at (suc n) h =
+    ap (take (suc n)) (drop-cons s at 0 (omega arith)) ∙ ap (λ (l : List ℕ). get_or s at 0 ∷ l) (taken s (suc at) n (omega arith))
+
+counted : (s : List ℕ) (at n : ℕ) → n ≤ 4 → from_le_bytes w32 (bytes_at s at n ++ drop n (0 ∷ 0 ∷ 0 ∷ 0 ∷ [])) ≡ number_at s at n
 unfolding number_at
-number-starts s at n =
-    let none : n - n ≡ 0 = omega arith in
-    record { inside = omega arith; small = rw none (omega arith); is = sym (ap (number_at s (at + n)) none) }
+counted s at zero l = refl
+counted s at (suc zero) l = omega arith
+counted s at (suc (suc zero)) l = simp add-one (omega arith)
+counted s at (suc (suc (suc zero))) l = simp add-one (omega arith)
+counted s at (suc (suc (suc (suc zero)))) l = simp add-one (omega arith)
+counted s at (suc (suc (suc (suc (suc n))))) l = absurd (omega arith)
 
-module _ {s : List ℕ} {at n k v : ℕ} (w : Numbered s at n k v) where
-  pub number-turns : {b : ℕ} → 0 < k → b ≡ get_or s (at + (k - 1)) 0 → b < 256 → Numbered s at n (k - 1) (256 * v + b)
-  unfolding number_at
-  number-turns {b} h e l =
-      let more : n - (k - 1) ≡ suc (n - k) = omega (arith, w.inside) in
-      let next : at + (k - 1) + 1 ≡ at + k = omega arith in
-      record {
-        inside = omega (arith, w.inside);
-        small = rw (more, pow-suc) (omega (arith, w.small));
-        is = rw (more, next) (omega (arith, e, w.is));
-      }
-
-  -- before another byte is read, a number of up to four bytes has at most three
-  pub number_fits : n ≤ 4 → 0 < k → v < 16_777_216
-  number_fits f h = omega (arith, w.small, power (n - k) (omega arith))
-    where
-      power : (m : ℕ) → m ≤ 3 → 256 ^ m ≤ 16_777_216
-      power zero l = omega arith
-      power (suc zero) l = omega arith
-      power (suc (suc zero)) l = omega arith
-      power (suc (suc (suc zero))) l = omega arith
-      power (suc (suc (suc (suc m)))) l = absurd (omega arith)
-
-  pub number-ends : k ≤ 0 → v ≡ number_at s at n
-  number-ends h =
-      let all : n - k ≡ n = omega arith in
-      let first : at + k ≡ at = omega arith in
-      w.is ∙ (λ i. number_at s (first i) (all i))
+-- the number in n bytes that stand before zeros
+pub number_of_bytes : (s : List ℕ) (at n : ℕ) → n ≤ 4 → at + n ≤ length s → (bs : List ℕ) → bs ≡ take n (drop at s)
+    → from_le_bytes w32 (bs ++ drop n (0 ∷ 0 ∷ 0 ∷ 0 ∷ [])) ≡ number_at s at n
+number_of_bytes s at n few room bs is =
+    ap (λ (l : List ℕ). from_le_bytes w32 (l ++ drop n (0 ∷ 0 ∷ 0 ∷ 0 ∷ []))) (is ∙ taken s at n room) ∙ counted s at n few
 
 -- ---- a field, by its room and its limits
 
@@ -85,15 +74,22 @@ bit_past s bits j h =
     ap (λ (b : ℕ). eqb (b / 2 ^ (j % 8) % 2) 1) (get_or-eq_default s 0 h)
     ∙ ap (λ (b : ℕ). eqb (b % 2) 1) (zero-div (2 ^ (j % 8)))
 
+-- a fault that is passed on
+pub passed_on : {A : Type 0} {r : Result A Fault} {f : Fault} → IsErrAnd r (λ e. e ≡ f) → r ≡ Err f
+passed_on {r = Ok x} h = absurd h
+passed_on {r = Err e} h = ap Err h
+
+-- a fault that stands for what is not there
+pub instead : {A B : Type 0} {r : Result A Fault} {f g : Fault} {o : Option B} → IsErrAnd r (λ e. e ≡ f)
+    → ◌≡◌ {A = Result B Fault} (Err f) (ok_or o g) → o ≡ None → r ≡ Err g
+instead {A} {B} {f = f} {g = g} h e n =
+    let same : ◌≡◌ {A = Result B Fault} (Err f) (Err g) = e ∙ ap (λ (p : Option B). ok_or p g) n in
+    let is : f ≡ g = cc in
+    passed_on h ∙ ap Err is
+
 -- one reading after another: a fault ends it, and what was read is handed on
 pub bind-bad : {A B : Type 0} {r : Read A} {f : ℕ} (k : A → ℕ → Read B) → bad f ≡ r → bad f ≡ bind r k
 bind-bad {A} k e = ap (λ (x : Read A). bind x k) e
 
 pub bind-good : {A B : Type 0} {r : Read A} {a : A} {m : ℕ} (k : A → ℕ → Read B) → good a m ≡ r → k a m ≡ bind r k
 bind-good {A} k e = ap (λ (x : Read A). bind x k) e
-
--- ---- signed values
-
-pub minus_one : (m : ℕ) → negsuc 0 -ℤ pos m ≡ negsuc m
-minus_one zero = refl
-minus_one (suc m) = ap (λ (k : ℕ). negsuc (suc k)) (zero-add m)

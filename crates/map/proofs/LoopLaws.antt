@@ -1,11 +1,9 @@
 -- Laws of the loops that read one item after another. Assumes nothing.
-use Rattle.std.proofs.Common.{◌≡◌, ℕ, suc, ◌+◌, ◌-◌, ◌*◌, ◌<◌, ◌≤◌, Bool, true, false, not, ◌&&◌, List, [], ◌∷◌, ℤ, sym, refl, ap, ◌∙◌}
-use Rattle.std.proofs.Common.{subst, add-zero, add_assoc, mul-le-mul_left, zero-add, mul-suc, add-one, arith}
+use Rattle.std.proofs.Common.{◌≡◌, ℕ, suc, ◌+◌, ◌-◌, ◌*◌, ◌<◌, ◌≤◌, Bool, false, not, ◌&&◌, List, [], ◌∷◌, ℤ, sym, refl, ap, ◌∙◌}
+use Rattle.std.proofs.Common.{subst, add-zero, add_assoc, mul-le-mul_left, zero-add, mul-suc, add-one, arith, Result, Ok, Err, IfOk}
 use Rattle.units.proofs.Laws.{exact}
 use Rattle.map.specs.declared.parts.Counts.{Counts}
-use Rattle.map.specs.declared.parts.Tally.{Tally}
-use Rattle.map.specs.declared.parts.Tally.TheVariants as tally
-use Rattle.map.specs.Answers.{TallySmall}
+use Rattle.map.specs.declared.Fault.{Fault}
 use Rattle.map.specs.Reading.{Read, bad, good, bind, map_read, many}
 use Rattle.map.specs.Format.{bit_at, clear_from}
 use Rattle.map.specs.Counting.{row_counts, grid_counts, counts, no_counts, sum, capped_sum, Small}
@@ -19,19 +17,10 @@ sub-end n j h = omega arith
 -- ---- the bits j .. n - 1 of a bit map are 0
 
 module _ (s : List ℕ) (bits n j : ℕ) where
-  pub clear-stop : j < n → bit_at s bits j ≡ true → clear_from s bits j (n - j) ≡ false
-  unfolding clear_from
-  clear-stop h e =
-      ap (clear_from s bits j) (sub-step n j h) ∙ ap (λ (t : Bool). not t && clear_from s bits (j + 1) (n - (j + 1))) e
-
   pub clear_step : j < n → bit_at s bits j ≡ false → clear_from s bits j (n - j) ≡ clear_from s bits (j + 1) (n - (j + 1))
   unfolding clear_from
   clear_step h e =
       ap (clear_from s bits j) (sub-step n j h) ∙ ap (λ (t : Bool). not t && clear_from s bits (j + 1) (n - (j + 1))) e
-
-  pub clear-end : n ≤ j → clear_from s bits j (n - j) ≡ true
-  unfolding clear_from
-  clear-end h = ap (clear_from s bits j) (sub-end n j h)
 
 -- ---- sums of counts
 
@@ -71,9 +60,10 @@ small-more l h = record {
   boxed-cells = omega (arith, h.boxed-cells);
 }
 
-pub tally-more : {m n : ℕ} → m ≤ n → (t : Tally) → TallySmall m t → TallySmall n t
-tally-more l (tally.Bad f) h = tt
-tally-more l (tally.Good c e) h = small-more l h
+-- what was counted, if it was, is small for more places too
+pub counts_more : {m n : ℕ} → m ≤ n → (r : Result (Counts × ℕ) Fault) → IfOk r (λ t. Small m t.0) → IfOk r (λ t. Small n t.0)
+counts_more l (Ok t) h = small-more l h
+counts_more l (Err f) h = h
 
 -- the counts of 65,536 places are exact
 sum-exact : {n : ℕ} (a b : Counts) → n ≤ 65536 → Small n (sum a b) → capped_sum a b ≡ sum a b
@@ -150,14 +140,6 @@ module _ {A : Type 0} (item : ℕ → ℕ → Read A) (f : A → Counts) (all : 
     pub inside : j ≤ n
     pub small : Small (most * j) acc
     pub left : map_read all (many item n 0 start) ≡ rest n j at acc
-
-pub walk-starts : {A : Type 0} {item : ℕ → ℕ → Read A} {f : A → Counts} {all : List A → Counts} (adds : Adds f all)
-    {most n start : ℕ} → Walk item f all adds most n start 0 start no_counts
-walk-starts {A} {item} {f} {all} adds {most} {n} {start} = record {
-  inside = omega arith;
-  small = small-none (most * 0);
-  left = rest-start item f all adds n start;
-}
 
 module _
     {A : Type 0}

@@ -1,8 +1,8 @@
 -- Laws of signed tests. Assumes nothing.
-use Rattle.std.proofs.Common.{◌≡◌, ℤ, to_z-of_z, w32, SFits, to_z, of_z}
-use Rattle.units.specs.Coordinates.{within_z}
+use Rattle.std.proofs.Common.{◌≡◌, ℕ, suc, ◌-◌, arith, w32, to_z}
+use Rattle.map.specs.Format.{signed32}
 
--- a signed test is made on what is read back from the bits
-pub plain-within : {low high z : ℤ} → SFits w32 z → SFits w32 low → SFits w32 high
-    → within_z (to_z w32 (of_z w32 low)) (to_z w32 (of_z w32 high)) (to_z w32 (of_z w32 z)) ≡ within_z low high z
-plain-within fz fl fh = λ i. within_z (to_z-of_z fl i) (to_z-of_z fh i) (to_z-of_z fz i)
+-- the i32 of 32 bits is their two's complement
+pub signed_is : (v : ℕ) → to_z w32 v ≡ signed32 v
+unfolding signed32
+signed_is v = let next : 4294967296 - suc v ≡ 4294967295 - v = omega arith in rw next

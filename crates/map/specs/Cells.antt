@@ -1,10 +1,9 @@
 -- Document 01, "The map": the cells of a row, which stand one after another. Assumes nothing.
 use Rattle.std.specs.Prelude.{◌≡◌, ℕ, zero, suc, ◌+◌, ◌*◌, ◌<◌, Bool, true, ◌&&◌, List, [], ◌∷◌, ℤ, pos, nat_le, slice_index}
 use Rattle.std.specs.Prelude.{slice_index_or}
-use Rattle.lists.specs.Sums.{total, flag}
+use Rattle.lists.specs.Sums.{flag}
 use Rattle.units.specs.Coordinates.{is_latitude, is_longitude}
 use Rattle.map.specs.declared.Cell.{Cell}
-use Rattle.map.specs.declared.rows.RowSum.{RowSum}
 use Rattle.map.specs.Reading.{Read, many}
 use Rattle.map.specs.Format.{Place, gap, cell, number_at, signed32, bit_at, read_cell}
 
@@ -44,11 +43,6 @@ cells_from s at (suc n) = cell_at s at ∷ cells_from s (at + 12) n
 -- the n cells from a position on, read one after another
 abbrev pub read_cells : List ℕ → (n at : ℕ) → Read (List Cell)
 read_cells s n at = many (λ _ a. read_cell s a) n 0 at
-
--- what is told of a row's cells: whether all are within their limits, and if so their people
-pub record RowSummed (cells : List Cell) (r : RowSum) : Type 0 where
-  pub fine : r.fine ≡ cells_within cells
-  pub people : r.fine ≡ true → r.people ≡ total (λ c. c.people) cells
 
 -- the fields of the n cells from a position on stand in three lists: people, latitudes, longitudes
 pub record RowTaken (s : List ℕ) (at n : ℕ) (p : List ℕ) (x y : List ℤ) : Type 0 where

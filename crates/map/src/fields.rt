@@ -1,148 +1,86 @@
-// Fields of the map's bytes: each is a fault, or its value with the position after it.
-ghost use Rattle.std.specs.Prelude.{◌≡◌, ◌+◌, ◌<◌, ◌≤◌, length, if◌then◌else◌, nat_le};
-ghost use Rattle.map.specs.Reading.{good, bad};
+// Fields of the map's bytes: each is its value with the position after it, or a fault.
+ghost use Rattle.std.specs.Prelude.{◌≡◌, ◌+◌, ◌≤◌, length, nat_le, IfOk};
 ghost use Rattle.units.specs.Coordinates.{within_z};
-ghost use Rattle.map.specs.Format.{number_at, signed32, within, unsigned_field, u8_field, u16_field, u32_field, i32_field};
-ghost use Rattle.map.specs.Format.{size_field, number_field};
-ghost use Rattle.map.specs.Answers.{field_means, field_value, coordinate_means};
+ghost use Rattle.map.specs.Format.{number_at, unsigned_field, i32_field, size_field, number_field};
+ghost use Rattle.map.specs.Answers.{read_means};
 
 use super::Fault;
-
-// A field without a sign.
-#[derive(Clone, Copy)]
-pub enum Field {
-    Bad(Fault),
-    Good(u32, usize),
-}
-
-// A field with a sign.
-#[derive(Clone, Copy)]
-pub enum Coordinate {
-    Bad(Fault),
-    Good(i32, usize),
-}
 
 // Whether n bytes stand at a position, which may be any.
 pub fn has_room(s: &[u8], at: usize, n: usize) -> bool
     ensures { result ≡ nat_le (at + n) (length s.now) }
 {
-    if at <= s.len() {
-        n <= s.len() - at
+    at <= s.len() && n <= s.len() - at
+}
+
+// The number in the N bytes at a position, lowest byte first.
+pub(crate) fn number_at<const N: usize>(s: &[u8], at: usize) -> u32
+    requires room { at + N ≤ length s.now }
+    requires few { N ≤ 4 }
+    ensures { result ≡ number_at s.now at N }
+{
+    let mut bytes = [0u8; 4];
+    bytes[..N].copy_from_slice(&s[at..at + N]);
+    u32::from_le_bytes(bytes)
+}
+
+// A field of N bytes without a sign.
+#[tactic(auto, unfolding(crate::specs::Format::field))]
+pub fn field<const N: usize>(
+    s: &[u8],
+    at: usize,
+    low: u32,
+    high: u32,
+) -> Result<(u32, usize), Fault>
+    requires { N ≤ 4 }
+    ensures value { read_means result ≡ unsigned_field s.now at N low high }
+    ensures limit { IfOk result (λ r. r.0 ≤ high) }
+{
+    if !has_room(s, at, N) {
+        return Err(Fault::Ends);
+    }
+    let v = number_at::<N>(s, at);
+    if (low..=high).contains(&v) {
+        Ok((v, at + N))
     } else {
-        false
+        Err(Fault::Limit)
     }
-}
-
-// A byte as a wider number.
-pub fn wide(x: u8) -> u32
-    ensures { (result ≡ x) × (result < 256) }
-{
-    x as u32
-}
-
-// The number in the n bytes at a position, lowest byte first.
-fn number_at(s: &[u8], at: usize, n: usize) -> u32
-    requires { (at + n ≤ length s.now) × (n ≤ 4) }
-    ensures { result ≡ number_at s.now at n }
-{
-    let mut v: u32 = 0;
-    let mut k = n;
-    while 0 < k {
-        k -= 1;
-        v = 256 * v + wide(s[at + k]);
-    }
-    v
-}
-
-// The number whose two's complement is v.
-pub fn signed(v: u32) -> i32
-    ensures { result ≡ signed32 v }
-{
-    if v < 2147483648 {
-        v as i32
-    } else {
-        -1 - ((4294967295 - v) as i32)
-    }
-}
-
-// A value that was read, if it is within its limits.
-fn limited(v: u32, low: u32, high: u32, next: usize) -> Field
-    ensures { (field_means result ≡ (if within low high v then good v next else bad 2)) × (field_value result ≤ high) }
-{
-    if v < low {
-        return Field::Bad(Fault::Limit);
-    }
-    if high < v {
-        return Field::Bad(Fault::Limit);
-    }
-    Field::Good(v, next)
-}
-
-// A field of n bytes without a sign.
-fn unsigned_field(s: &[u8], at: usize, n: usize, low: u32, high: u32) -> Field
-    requires { n ≤ 4 }
-    ensures { (field_means result ≡ unsigned_field s.now at n low high) × (field_value result ≤ high) }
-{
-    if has_room(s, at, n) {
-        limited(number_at(s, at, n), low, high, at + n)
-    } else {
-        Field::Bad(Fault::Ends)
-    }
-}
-
-// Fields of one, two and four bytes.
-pub fn u8_field(s: &[u8], at: usize, low: u32, high: u32) -> Field
-    ensures { (field_means result ≡ u8_field s.now at low high) × (field_value result ≤ high) }
-{
-    unsigned_field(s, at, 1, low, high)
-}
-
-pub fn u16_field(s: &[u8], at: usize, low: u32, high: u32) -> Field
-    ensures { (field_means result ≡ u16_field s.now at low high) × (field_value result ≤ high) }
-{
-    unsigned_field(s, at, 2, low, high)
-}
-
-pub fn u32_field(s: &[u8], at: usize, low: u32, high: u32) -> Field
-    ensures { (field_means result ≡ u32_field s.now at low high) × (field_value result ≤ high) }
-{
-    unsigned_field(s, at, 4, low, high)
 }
 
 // A field of four bytes with a sign.
-pub fn i32_field(s: &[u8], at: usize, low: i32, high: i32) -> Coordinate
-    ensures { coordinate_means result ≡ i32_field s.now at (within_z low high) }
+#[tactic(auto, using(crate::proofs::SignedLaws::signed_is), unfolding(crate::specs::Format::field))]
+pub fn i32_field(s: &[u8], at: usize, low: i32, high: i32) -> Result<(i32, usize), Fault>
+    ensures { read_means result ≡ i32_field s.now at (within_z low high) }
 {
-    if has_room(s, at, 4) {
-        let v = signed(number_at(s, at, 4));
-        if units::in_range(low, high, v) {
-            Coordinate::Good(v, at + 4)
-        } else {
-            Coordinate::Bad(Fault::Limit)
-        }
+    if !has_room(s, at, 4) {
+        return Err(Fault::Ends);
+    }
+    let v = number_at::<4>(s, at).cast_signed();
+    if units::in_range(low, high, v) {
+        Ok((v, at + 4))
     } else {
-        Coordinate::Bad(Fault::Ends)
+        Err(Fault::Limit)
     }
 }
 
 // Rows, or columns.
-pub fn size_field(s: &[u8], at: usize) -> Field
-    ensures { (field_means result ≡ size_field s.now at) × (field_value result ≤ 256) }
+#[tactic(auto, unfolding(crate::specs::Format::size_field))]
+pub fn size_field(s: &[u8], at: usize) -> Result<(u32, usize), Fault>
+    ensures value { read_means result ≡ size_field s.now at }
+    ensures limit { IfOk result (λ r. r.0 ≤ 128) }
 {
-    u8_field(s, at, 1, 128)
+    field::<1>(s, at, 1, 128)
 }
 
 // An area's number, above the one before.
-pub fn number_field(s: &[u8], before: u16, at: usize) -> Field
-    ensures { (field_means result ≡ number_field s.now before at) × (field_value result ≤ 416) }
+#[tactic(auto, unfolding(crate::specs::Format::number_field))]
+pub fn number_field(s: &[u8], before: u16, at: usize) -> Result<(u32, usize), Fault>
+    ensures value { read_means result ≡ number_field s.now before at }
+    ensures limit { IfOk result (λ r. r.0 ≤ 416) }
 {
-    match u16_field(s, at, 1, 416) {
-        Field::Bad(f) => Field::Bad(f),
-        Field::Good(n, next) => {
-            if before as u32 >= n {
-                return Field::Bad(Fault::Order);
-            }
-            Field::Good(n, next)
-        }
+    let (n, next) = field::<2>(s, at, 1, 416)?;
+    if u32::from(before) >= n {
+        return Err(Fault::Order);
     }
+    Ok((n, next))
 }

@@ -3,36 +3,39 @@
 #![tactic(auto)]
 
 pub mod fields;
+pub mod head;
 pub mod parts;
 pub mod rows;
 
 ghost use Rattle.std.specs.Prelude.{◌≡◌};
 ghost use Rattle.map.specs.Format.{read_map};
-ghost use Rattle.map.specs.Answers.{fault_number, checked_number, number_of, found_means, look_up, part_of};
+ghost use Rattle.map.specs.Answers.{fault_number, checked_number, number_of, sought_means, look_up, part_of};
 
-use parts::Sought;
+use boxes::Boxes;
 use units::People;
 
 // Why a map is refused (document 01, "Refused by the input").
-#[derive(Clone, Copy)]
+#[derive(Clone, Copy, Debug, PartialEq, Eq)]
 pub enum Fault {
-    // 1: the map ends before or inside a field.
-    Ends,
-    // 2: a field outside its limits, or a bit past the last column.
-    Limit,
-    // 3: bytes after the last area.
-    Extra,
-    // 4: an area's number is not above the one before.
-    Order,
-    // 5: a population of 0 or above 40,000,000.
-    Population,
+    // The map ends before or inside a field.
+    Ends = 1,
+    // A field outside its limits, or a bit past the last column.
+    Limit = 2,
+    // Bytes after the last area.
+    Extra = 3,
+    // An area's number is not above the one before.
+    Order = 4,
+    // A population of 0 or above 40,000,000.
+    Population = 5,
 }
 
-// Whether a map is accepted.
-#[derive(Clone, Copy)]
-pub enum Checked {
-    Accepted,
-    Refused(Fault),
+// Document 01's number of the refusal.
+impl From<Fault> for u32 {
+    ghost from_gives = { λ f n. n ≡ fault_number f };
+
+    fn from(f: Fault) -> u32 {
+        f as u32
+    }
 }
 
 // The head of an area, and where its rows stand: the bytes from start to before end.
@@ -47,14 +50,6 @@ pub struct Area {
     pub end: usize,
 }
 
-// The area with a number.
-#[derive(Clone, Copy)]
-pub enum Found {
-    Refused(Fault),
-    Lacking,
-    At(Area),
-}
-
 // A cell: its people, and the point that stands for them in hundredths of an arc second.
 #[derive(Clone, Copy)]
 pub struct Cell {
@@ -63,58 +58,21 @@ pub struct Cell {
     pub longitude: i32,
 }
 
-impl Fault {
-    // Document 01's number of the refusal.
-    pub fn number(self) -> u32
-        ensures { result ≡ fault_number self }
-    {
-        match self {
-            Fault::Ends => 1,
-            Fault::Limit => 2,
-            Fault::Extra => 3,
-            Fault::Order => 4,
-            Fault::Population => 5,
-        }
-    }
-}
-
-impl Checked {
-    // Document 01's number of the answer: 0 where the map is accepted.
-    pub fn number(self) -> u32
-        ensures { result ≡ checked_number self }
-    {
-        match self {
-            Checked::Accepted => 0,
-            Checked::Refused(f) => f.number(),
-        }
-    }
-}
-
 // Whether a map is accepted, or why not.
-pub fn check(map: &[u8]) -> Checked
+pub fn check(map: &[u8]) -> Result<(), Fault>
     ensures { checked_number result ≡ number_of (read_map map.now) }
 {
-    match look_up(map, 0) {
-        Found::Refused(f) => Checked::Refused(f),
-        Found::Lacking => Checked::Accepted,
-        Found::At(_) => Checked::Accepted,
-    }
+    look_up(map, 0)?;
+    Ok(())
 }
 
 // The area with a number, in a map that is checked whole.
-pub fn look_up(map: &[u8], number: u16) -> Found
-    ensures { found_means result ≡ look_up number (read_map map.now) }
+pub fn look_up(map: &[u8], number: u16) -> Result<Option<Area>, Fault>
+    ensures { sought_means result ≡ look_up number (read_map map.now) }
 {
-    let edges = [0i32; 4];
-    let widths = [0u8; 64];
-    match parts::find(map, number, &edges[..0], &widths) {
-        Sought::Refused(f) => Found::Refused(f),
-        Sought::Lacking => Found::Lacking,
-        Sought::At(a) => {
-            let area = a.area;
-            Found::At(area)
-        }
-    }
+    let none = Boxes::NONE;
+    let found = parts::find(map, number, &none)?;
+    Ok(found.map(|counted| counted.area))
 }
 
 // The part of the map that holds an area's rows, first bit map to last cell: empty if the map lacks the number or is refused.
@@ -122,12 +80,8 @@ pub fn rows_of(map: &[u8], number: u16) -> &[u8]
     ensures { result.now ≡ part_of map.now number (read_map map.now) }
 {
     match look_up(map, number) {
-        Found::At(a) => {
-            let start = a.start;
-            let end = a.end;
-            &map[start..end]
-        }
-        Found::Lacking => &map[..0],
-        Found::Refused(_) => &map[..0],
+        Ok(Some(a)) => &map[a.start..a.end],
+        Ok(None) => &map[..0],
+        Err(_) => &map[..0],
     }
 }

@@ -167,13 +167,14 @@ module _
     {next j : ℕ}
     (c : LayingRow s columns start always edges before now next j)
   where
-    pub place-turns : (x : Shown) → j < columns → Room columns before → PlaceShown (read_place s start j next) always edges x
+    pub place-turns : (x : Shown) (after : ℕ) → j < columns → Room columns before
+        → PlaceShown (read_place s start j next) always edges (x, after)
         → LayingRow s columns start always edges before
         (record { people = set now.people j x.people; cells = set now.cells j x.cell; mask = set now.mask j x.covered })
-        x.next (j + 1)
-    place-turns x h l e =
+        after (j + 1)
+    place-turns x after h l e =
         let t = left-turns c.walk gap h in
-        let shown = subst (λ (r : Read Place). PlaceShown r always edges x) t.is e in
+        let shown = subst (λ (r : Read Place). PlaceShown r always edges (x, after)) t.is e in
         record {
           row = c.row;
           end = c.end;

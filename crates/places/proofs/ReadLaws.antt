@@ -1,5 +1,5 @@
 -- Laws of items that are read one after another, none of them refused. Assumes nothing.
-use Prim.Native.Nat.{ℕ, ◌+◌, ◌-◌, ◌≤◌, ◌<◌}
+use Prim.Native.Nat.{ℕ, suc, ◌+◌, ◌-◌, ◌≤◌, ◌<◌}
 use mathlib.Core.Path.{◌≡◌, refl, sym, ap, ◌∙◌, subst}
 use mathlib.Core.List.{List, ◌∷◌}
 use native.Mathlib.Omega.{arith}
@@ -8,7 +8,6 @@ use lib.Seq.{get_or-drop, drop-drop}
 use Rattle.map.specs.Reading.{Read, bad, good, bind, many}
 use Rattle.map.specs.Format.{Place, bit_map_bytes, bit_map_field, read_place, read_row}
 use Rattle.map.proofs.Onward.{Gives, FieldHas, gives-field}
-use Rattle.map.proofs.LoopLaws.{sub-step, sub-end}
 use Rattle.places.specs.Places.{IsGood}
 
 -- what a reading that is not refused gives
@@ -53,6 +52,12 @@ module _ {A : Type 0} (item : ℕ → ℕ → Read A) where
     left = ap (λ (k : ℕ). many item k 0 start) (omega arith) ∙ q;
   }
 
+more : (n j : ℕ) → j < n → suc (n - (j + 1)) ≡ n - j
+more n j h = omega arith
+
+no_more : (n j : ℕ) → n ≤ j → 0 ≡ n - j
+no_more n j h = omega arith
+
 -- item j is the list's, and the next one is read from where it ends
 pub record Turn {A : Type 0} (item : ℕ → ℕ → Read A) (d : A) (n : ℕ) (l : List A) (end j at : ℕ) : Type 0 where
   pub next : ℕ
@@ -63,7 +68,7 @@ module _ {A : Type 0} {item : ℕ → ℕ → Read A} {n : ℕ} {l : List A} {en
   pub left-turns : (d : A) → j < n → Turn item d n l end j at
   unfolding many
   left-turns d h =
-      let p = parts (item j at) _ (ap (λ (k : ℕ). many item k j at) (sym (sub-step n j h)) ∙ w.left) in
+      let p = parts (item j at) _ (ap (λ (k : ℕ). many item k j at) (more n j h) ∙ w.left) in
       let q = parts (many item (n - (j + 1)) (j + 1) p.next) (λ l e. good (p.value ∷ l) e) p.rest in
       let split : p.value ∷ q.value ≡ drop j l = cc in
       let ends : q.next ≡ end = cc in
@@ -79,5 +84,5 @@ module _ {A : Type 0} {item : ℕ → ℕ → Read A} {n : ℕ} {l : List A} {en
   pub left-ends : n ≤ j → at ≡ end
   unfolding many
   left-ends h =
-      let q = ap (λ (k : ℕ). many item k j at) (sym (sub-end n j h)) ∙ w.left in
+      let q = ap (λ (k : ℕ). many item k j at) (no_more n j h) ∙ w.left in
       cc

@@ -12,9 +12,9 @@ pub record Shows (p : Place) (always : ℕ) (edges : List ℤ) (x : Shown) : Typ
   pub cell : x.cell ≡ flag (is_cell p)
   pub covered : x.covered ≡ flag (is_covered always edges p)
 
-abbrev pub PlaceShown : Read Place → (always : ℕ) → (edges : List ℤ) → Shown → Type 0
+abbrev pub PlaceShown : Read Place → (always : ℕ) → (edges : List ℤ) → Shown × ℕ → Type 0
 PlaceShown (bad f) always edges x = Unit {0}
-PlaceShown (good p e) always edges x = Shows p always edges x × (x.next ≡ e)
+PlaceShown (good p e) always edges x = Shows p always edges x.0 × (x.1 ≡ e)
 
 -- a row that was read is laid, and the position after it is handed back
 abbrev pub RowLaid : Read (List Place) → (columns always : ℕ) → (edges : List ℤ) → (before after : Lists) → (next : ℕ) → Type 0

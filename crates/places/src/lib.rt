@@ -2,125 +2,113 @@
 #![tactic(auto)]
 
 ghost use Rattle.std.specs.Prelude.{◌≡◌, ◌*◌, ◌≤◌, ltb, length};
-ghost use Rattle.lists.specs.Sums.{flag};
 ghost use Rattle.map.specs.Format.{read_place, read_row, read_rows};
+ghost use Rattle.boxes.specs.Boxes.{edges_of};
 ghost use Rattle.places.specs.Places.{IsGood, LaidOut};
 ghost use Rattle.places.specs.Rows.{PlaceShown, RowLaid};
 
-use map::parts::PlaceRead;
+use boxes::Boxes;
+use map::Area;
 
-// What is laid for a place, and the position after what stands there.
+// What is laid for a place: its people, 1 if it has a cell, and 1 if a licence covers the cell.
 #[derive(Clone, Copy)]
 struct Shown {
     people: u32,
     cell: u8,
     covered: u8,
-    next: usize,
 }
 
-// 1 if there is a licence over a cell, else 0: the area's own count, and the boxes that cover it.
-fn mark(licences: u32) -> u8
-    ensures { result ≡ flag (ltb 0 licences) }
-{
-    if 0 < licences { 1 } else { 0 }
-}
-
-// What is laid for a place without a cell.
-fn no_cell(next: usize) -> Shown
-    ensures { (result.people ≡ 0) × (result.cell ≡ 0) × (result.covered ≡ 0) × (result.next ≡ next) }
-{
-    Shown {
+impl Shown {
+    // What is laid for a place without a cell.
+    const NONE: Shown = Shown {
         people: 0,
         cell: 0,
         covered: 0,
-        next,
-    }
+    };
 }
 
-// What is laid for the place at column j of a row whose bit map starts at bits.
-fn show(map: &[u8], bits: usize, j: usize, at: usize, always: u32, edges: &[i32]) -> Shown
-    requires { (always ≤ 64) × (length edges.now ≤ 256) }
-    ensures { PlaceShown (read_place map.now bits j at) always edges.now result }
+// What is laid for the place at column j of a row whose bit map starts at bits, and the position after what stands there. A cell is
+// covered by the area's own licences, always of them, and by those whose boxes cover it.
+fn show(map: &[u8], bits: usize, j: usize, at: usize, always: u32, boxes: &Boxes) -> (Shown, usize)
+    ensures { PlaceShown (read_place map.now bits j at) always (edges_of boxes.now) result }
 {
     match map::parts::place(map, bits, j, at) {
-        PlaceRead::Bad(_) => no_cell(at),
-        PlaceRead::Gap(next) => no_cell(next),
-        PlaceRead::There(c, next) => Shown {
-            people: c.people,
-            cell: 1,
-            covered: mark(always + boxes::covering(edges, c.latitude, c.longitude)),
-            next,
-        },
+        Err(_) => (Shown::NONE, at),
+        Ok((None, next)) => (Shown::NONE, next),
+        Ok((Some(cell), next)) => {
+            let covered = 0 < always || 0 < boxes.covering(cell.latitude, cell.longitude);
+            let shown = Shown {
+                people: cell.people,
+                cell: 1,
+                covered: u8::from(covered),
+            };
+            (shown, next)
+        }
     }
 }
 
 // Lays the row at a position from the first place of the three lists onward, and hands back the position after the row.
+// Kept as three parameters, here and in lay_out: of a struct of three lent parts a contract reads `lists.exit.1.1.0.now` for `mask.new`.
+// Kept as a clause, here, in lay_out and in map's row: the sizes of an Area are any, and only a Head's are known to be few.
 fn lay_row(
     map: &[u8],
     columns: usize,
     at: usize,
     always: u32,
-    edges: &[i32],
+    boxes: &Boxes,
     people: &mut [u32],
     cells: &mut [u8],
     mask: &mut [u8],
 ) -> usize
-    requires { IsGood (read_row map.now columns at) × (columns ≤ 256) × (always ≤ 64) × (length edges.now ≤ 256)
+    requires { IsGood (read_row map.now columns at) × (columns ≤ 256)
         × (columns ≤ length people.old) × (columns ≤ length cells.old) × (columns ≤ length mask.old) }
-    ensures { RowLaid (read_row map.now columns at) columns always edges.now
+    ensures { RowLaid (read_row map.now columns at) columns always (edges_of boxes.now)
         (record { people = people.old; cells = cells.old; mask = mask.old })
         (record { people = people.new; cells = cells.new; mask = mask.new }) result }
 {
     let mut next = at + (columns + 7) / 8;
-    let mut j: usize = 0;
-    while j < columns {
-        let p = show(map, at, j, next, always, edges);
-        people[j] = p.people;
-        cells[j] = p.cell;
-        mask[j] = p.covered;
-        next = p.next;
-        j += 1;
+    for j in 0..columns {
+        let (shown, after) = show(map, at, j, next, always, boxes);
+        people[j] = shown.people;
+        cells[j] = shown.cell;
+        mask[j] = shown.covered;
+        next = after;
     }
     next
 }
 
 // Lays an area's rows into three lists, one element for each place, row by row: the people of the place, 1 if it has a cell, and 1
-// if a licence covers the cell. The area's rows start at a position of the map; always licences have the whole area, and edges are
-// those of the boxes. Each row goes into the parts of the lists from its first place on. The rows must have been read before, so they
-// are walked here once and without a test of the whole.
+// if a licence covers the cell; always licences have the whole area. Each row goes into the parts of the lists from its first place
+// on. The rows must have been read before, so they are walked here once and without a test of the whole.
 pub fn lay_out(
     map: &[u8],
-    columns: usize,
-    rows: usize,
-    start: usize,
+    area: &Area,
     always: u32,
-    edges: &[i32],
+    boxes: &Boxes,
     people: &mut [u32],
     cells: &mut [u8],
     mask: &mut [u8],
 )
-    requires { IsGood (read_rows map.now columns rows start) × (columns ≤ 256) × (rows ≤ 256) × (always ≤ 64)
-        × (length edges.now ≤ 256) × (rows * columns ≤ length people.old) × (rows * columns ≤ length cells.old)
-        × (rows * columns ≤ length mask.old) }
-    ensures { LaidOut (read_rows map.now columns rows start) columns rows always edges.now
-        (record { people = people.old; cells = cells.old; mask = mask.old })
+    requires { IsGood (read_rows map.now area.now.columns area.now.rows area.now.start) × (area.now.columns ≤ 256)
+        × (area.now.rows ≤ 256) × (area.now.rows * area.now.columns ≤ length people.old)
+        × (area.now.rows * area.now.columns ≤ length cells.old) × (area.now.rows * area.now.columns ≤ length mask.old) }
+    ensures { LaidOut (read_rows map.now area.now.columns area.now.rows area.now.start) area.now.columns area.now.rows always
+        (edges_of boxes.now) (record { people = people.old; cells = cells.old; mask = mask.old })
         (record { people = people.new; cells = cells.new; mask = mask.new }) }
 {
-    let mut from = start;
-    let mut at: usize = 0;
-    let mut i: usize = 0;
-    while i < rows {
+    let mut from = area.start;
+    let mut at = 0;
+    for _ in 0..area.rows {
         from = lay_row(
             map,
-            columns,
+            area.columns,
             from,
             always,
-            edges,
+            boxes,
             &mut people[at..],
             &mut cells[at..],
             &mut mask[at..],
         );
-        at += columns;
-        i += 1;
+        at += area.columns;
     }
 }

@@ -2,12 +2,12 @@
 -- Assumes nothing.
 use Prim.Native.Nat.{ℕ, zero, suc, ◌-◌, ◌*◌, ◌%◌, ◌<◌, ◌≤◌}
 use mathlib.Core.Path.{◌≡◌, refl, sym, ap, subst, ◌∙◌}
-use mathlib.Core.Bool.{Bool, true, false, cond}
+use mathlib.Core.Bool.{Bool, true, false, cond, not}
 use mathlib.Core.Logic.{◌↔◌, ⊎_elim}
 use mathlib.Core.List.{List, [], ◌∷◌, ◌++◌, map, map-append, Memᴰ}
 use native.Mathlib.Nat.{mod-lt}
 use native.Mathlib.Omega.{arith}
-use lib.Dec.{leb, eqb}
+use lib.Dec.{ltb, leb, eqb}
 use lib.ListN.{length, get_or, length-map, get_or-map}
 use borrow.Author.Tests.{eq-eqb, ne_eqb}
 use Rattle.lists.specs.Sums.{total, any}
@@ -18,10 +18,12 @@ use Rattle.subset.proofs.RuleLaws.{smallest-only}
 use Rattle.coverage.specs.declared.Holding.{Holding}
 use Rattle.coverage.specs.Blocks.{size}
 use Rattle.search.specs.declared.Answer.{Answer}
+use Rattle.search.specs.declared.Kind.{Kind}
+use Rattle.search.specs.declared.Kind.TheVariants.{Exact, RoundedUp, OnePart}
 use Rattle.search.specs.declared.Rank as searched
 use Rattle.search.specs.Choice as choice
 use Rattle.search.specs.Choice.{Mark, parts, entry, number, cap, heft, Allowed, rank_of, Best}
-use Rattle.search.specs.Proposal.{table, rank_at, best_at, tied_to, pick, answer_at, propose}
+use Rattle.search.specs.Proposal.{kind_number, table, rank_at, best_at, tied_to, pick, answer_at, propose}
 use Rattle.search.proofs.Optimal.{Right, allowed-within, from, of-best_at, to-best_at, best-choice, best-entry, tied-best, at_place}
 use Rattle.search.proofs.Greedy.{always-right}
 use Rattle.proposal.specs.Choices.{
@@ -60,6 +62,7 @@ use Rattle.proposal.proofs.RankLaws.{
   ahead-same,
   rank-one,
   share-below,
+  opposite,
   matches,
 }
 
@@ -280,23 +283,23 @@ module _ (s : List Holding) (draw : ℕ) (fits : total_value s ≤ total (λ m. 
 
   -- ---- its white space, share and kind
 
-  white-found : choice.white (total_value s) (sizes s) (chosen s draw) ≡ found.white
+  white-found : choice.white (total_value s) (sizes s) (chosen s draw) ≡ found.white.0
   white-found = ap (λ c. choice.white (total_value s) (sizes s) c) chosen-right ∙ right.its-white
 
   cap-found : cap (sizes s) (entry (chosen s draw)) ≡ cap (sizes s) found.entry
   cap-found = ap (λ e. cap (sizes s) e) entry_found
 
-  pub white-same : white_space (share s (chosen s draw)) (part_areas s (chosen s draw)) ≡ found.white
+  pub white-same : white_space (share s (chosen s draw)) (part_areas s (chosen s draw)) ≡ found.white.0
   unfolding rank rank_of
   white-same = sym (matches s (chosen s draw) chosen-length chosen-best.allowed).white ∙ white-found
 
   pub entry-inside : found.entry ≤ length (sizes s)
   entry-inside = omega (arith, allowed-within (total_value s) (sizes s) (chosen s draw) chosen-best.allowed, entry_found)
 
-  pub white-inside : found.white ≤ cap (sizes s) found.entry
+  pub white-inside : found.white.0 ≤ cap (sizes s) found.entry
   white-inside = omega (arith, white-found, cap-found)
 
-  pub share-found : share s (chosen s draw) ≡ cap (sizes s) found.entry - found.white
+  pub share-found : share s (chosen s draw) ≡ cap (sizes s) found.entry - found.white.0
   share-found =
       let w = white-found in
       let z = share-same s (chosen s draw) chosen-length in
@@ -308,30 +311,35 @@ module _ (s : List Holding) (draw : ℕ) (fits : total_value s ≤ total (λ m. 
       chosen-best.allowed.proper
 
   abbrev pub found_rank : searched.Rank
-  found_rank = rank_of (cap (sizes s) found.entry) found.white (heft (weights s) found.entry)
+  found_rank = rank_of (cap (sizes s) found.entry) found.white.0 (heft (weights s) found.entry)
 
-  pub kind-found : found.kind ≡ cond (eqb found.entry 0) 1 (cond (eqb found_rank.far 0) 2 3)
+  -- the kind of an answer by its entry and whether it is far from all-whole
+  abbrev kind_by : (exact far : Bool) → Kind
+  kind_by exact far = cond exact Exact (cond far OnePart RoundedUp)
+
+  kind-found : found.kind ≡ kind_by (eqb found.entry 0) found_rank.far
   unfolding propose answer_at rank_at
   kind-found = refl
 
-  pub kind-same : kind_of (share s (chosen s draw)) (part_areas s (chosen s draw)) ≡ found.kind
+  pub kind-same : kind_of (share s (chosen s draw)) (part_areas s (chosen s draw)) ≡ kind_number found.kind
   unfolding kind_of is_all_whole rank_of
-  kind-same = ⊎_elim none (λ o. the_one o (the-area s c chosen-length o)) (shape c chosen-best.allowed.one) ∙ sym kind-found
+  kind-same =
+      ⊎_elim none (λ o. the_one o (the-area s c chosen-length o)) (shape c chosen-best.allowed.one) ∙ ap kind_number (sym kind-found)
     where
       c : List Mark
       c = chosen s draw
 
       Is : ℕ → Type 0
-      Is k = k ≡ cond (eqb found.entry 0) 1 (cond (eqb found_rank.far 0) 2 3)
+      Is k = k ≡ kind_number (kind_by (eqb found.entry 0) found_rank.far)
 
       none : parts c ≡ 0 → Is (kind_of (share s c) (part_areas s c))
       none o =
           let z = eq-eqb found.entry 0 (sym entry_found ∙ entry-none c o) in
-          ap (λ l. kind_of (share s c) l) (no-area s c chosen-length o) ∙ sym (ap (λ b. cond b 1 (cond (eqb found_rank.far 0) 2 3)) z)
+          ap (λ l. kind_of (share s c) l) (no-area s c chosen-length o) ∙ sym (ap (λ b. kind_number (kind_by b found_rank.far)) z)
 
-      flag : (b : Bool) → ◌≡◌ {A = ℕ} (cond b 2 3) (cond (eqb (cond b 0 1) 0) 2 3)
-      flag true = refl
-      flag false = refl
+      whole-or-not : (b : Bool) → ◌≡◌ {A = ℕ} (cond b 2 3) (kind_number (kind_by false (not b)))
+      whole-or-not true = refl
+      whole-or-not false = refl
 
       the_one : parts c ≡ 1 → TheArea s c → Is (kind_of (share s c) (part_areas s c))
       the_one o t =
@@ -341,7 +349,9 @@ module _ (s : List Holding) (draw : ℕ) (fits : total_value s ≤ total (λ m. 
           let r : found_rank ≡ rank_of (size t.area) (size t.area - share s c) t.area.weight =
           sym (λ i. rank_of (cap (sizes s) (entry_found i)) (white-found i) (heft (weights s) (entry_found i)))
           ∙ rank-one s c chosen-length chosen-best.allowed o t in
-          let f : found_rank.far ≡ cond (leb (9 * size t.area) (10 * share s c)) 0 1 =
-          ap (λ (x : searched.Rank). x.far) r ∙ ap (λ x. cond (leb (9 * size t.area) (10 * x)) 0 1) back in
-          ap (λ l. kind_of (share s c) l) t.only ∙ flag (leb (9 * size t.area) (10 * share s c))
-          ∙ sym (λ i. cond (z i) 1 (cond (eqb (f i) 0) 2 3))
+          let f : found_rank.far ≡ not (leb (9 * size t.area) (10 * share s c)) =
+          ap (λ (x : searched.Rank). x.far) r
+          ∙ ap (λ x. ltb (10 * x) (9 * size t.area)) back
+          ∙ opposite (9 * size t.area) (10 * share s c) in
+          ap (λ l. kind_of (share s c) l) t.only ∙ whole-or-not (leb (9 * size t.area) (10 * share s c))
+          ∙ sym (λ i. kind_number (kind_by (z i) (f i)))

@@ -8,8 +8,8 @@ use native.Mathlib.Nat.{mul_left_comm}
 use native.Mathlib.Omega.{arith}
 use lib.Dec.{ltb, leb, eqb}
 use lib.ListN.{length, get_or, length-map}
-use borrow.Author.Tests.{ltb-true, lt-ltb, eqb-true, eq-eqb}
-use Rattle.lists.proofs.Tests.{both, first_of, second-of, same_test}
+use borrow.Author.Tests.{ltb-true, lt-ltb, le-ltb, leb-true, leb-false, eqb-true, eq-eqb}
+use Rattle.lists.proofs.Tests.{by-test, both, first_of, second-of, same_test}
 use Rattle.coverage.specs.declared.Holding.{Holding}
 use Rattle.coverage.specs.Blocks.{size}
 use Rattle.search.specs.declared.Rank as searched
@@ -155,9 +155,16 @@ module _ (s : List Holding) (c : List Mark) (h : length c ≡ length s) where
 
 -- ---- ranks
 
+-- a test and its opposite
+pub opposite : (a b : ℕ) → ltb b a ≡ not (leb a b)
+opposite a b =
+    by-test (leb a b)
+    (λ t. le-ltb b a (leb-true a b t) ∙ ap not (sym t))
+    (λ t. lt-ltb b a (leb-false a b t) ∙ ap not (sym t))
+
 -- one rank in the two forms. The weight stands for white-space people, which are fractions over 100 × weight, and for none if exact
 pub record Matches (l : Rank) (r : searched.Rank) : Type 0 where
-  pub far : r.far ≡ cond l.all_whole 0 1
+  pub far : r.far ≡ not l.all_whole
   pub white : r.white ≡ l.white
   pub weight : (l.per ≡ 100 * r.weight) ⊎ ((l.white ≡ 0) × (l.per ≡ r.weight))
 
@@ -193,13 +200,13 @@ module _ (l l' : Rank) (r r' : searched.Rank) (m : Matches l r) (m' : Matches l'
   unfolding ahead choice.ahead
   ahead-same =
       flags l.all_whole l'.all_whole _
-      ∙ (λ i. cond (ltb (sym m.far i) (sym m'.far i)) true
-      (cond (ltb (sym m'.far i) (sym m.far i)) false
+      ∙ (λ i. cond (not (sym m.far i) && sym m'.far i) true
+      (cond (not (sym m'.far i) && sym m.far i) false
       (cond (ltb (sym m.white i) (sym m'.white i)) true
       (cond (ltb (sym m'.white i) (sym m.white i)) false (last i)))))
     where
       flags : (p q x : Bool) → cond (p && not q) true (cond (q && not p) false x)
-          ≡ cond (ltb (cond p 0 1) (cond q 0 1)) true (cond (ltb (cond q 0 1) (cond p 0 1)) false x)
+          ≡ cond (not (not p) && not q) true (cond (not (not q) && not p) false x)
       flags true true x = refl
       flags true false x = refl
       flags false true x = refl
@@ -248,4 +255,8 @@ module _ (s : List Holding) (c : List Mark) (h : length c ≡ length s) (a : All
           let b = share-below o t in
           let back : size t.area - (size t.area - share s c) ≡ share s c = omega arith in
           moved (t.area ∷ []) (rank_of (size t.area) (size t.area - share s c) t.area.weight) t.only (rank-one o t)
-          (record { far = ap (λ x. cond (leb (9 * size t.area) (10 * x)) 0 1) back; white = refl; weight = inl refl })
+          (record {
+            far = ap (λ x. ltb (10 * x) (9 * size t.area)) back ∙ opposite (9 * size t.area) (10 * share s c);
+            white = refl;
+            weight = inl refl;
+          })

@@ -6,9 +6,12 @@ use mathlib.Core.List.{List, [], ◌∷◌, ◌++◌, map, map-append, append_as
 use native.Mathlib.Numerals.{add-one}
 use native.Mathlib.Omega.{arith}
 use lib.Dec.{ltb}
+use borrow.Author.Tests.{lt-ltb, le-ltb}
 use lib.ListN.{length, get_or, take, drop, set, replicate, length-set, drop_of_length-le}
 use lib.Seq.{take-suc-set, drop-set-lt, drop-cons}
 use Rattle.lists.specs.Filters.{filter}
+use Rattle.lists.proofs.SumLaws.{drop-next}
+use Rattle.lists.proofs.Tests.{takes, leaves}
 use Rattle.coverage.specs.declared.Holding.{Holding}
 use Rattle.coverage.specs.declared.AreaBlocks.{AreaBlocks}
 use Rattle.coverage.specs.Blocks.{whole_blocks, partial, blocks_of}
@@ -20,7 +23,7 @@ use Rattle.proposal.specs.Choices.{partials}
 use Rattle.proposal.specs.Answer.{Gets, gets_nothing, gets_by, Given, first_mark, later_marks, given}
 use Rattle.proposal.specs.Promises.{gets_means, area_means, blank}
 use Rattle.proposal.specs.Code.{Bounded, mark_of, decode, Settled}
-use Rattle.proposal.proofs.GatherLaws.{all-given, from_place, sized}
+use Rattle.proposal.proofs.GatherLaws.{sized}
 
 -- what one area is given, by the entry and the set number that are left
 abbrev pub given_at : (kind sh : ℕ) → Holding → (e n : ℕ) → Given
@@ -70,12 +73,9 @@ tail_of [] = []
 tail_of (x ∷ l) = l
 
 -- a turn: `x` are the blocks of the area at place i, and `m` tells what it gets
-module _ {areas : List Holding} {count kind sh e₀ n₀ i e n : ℕ} {r : List AreaAnswer} (b : Bounded areas count)
-    (g : Settling (take count areas) kind sh e₀ n₀ i e n r) (h : i < count) (x : AreaBlocks)
+module _ {areas : List Holding} {kind sh e₀ n₀ i e n : ℕ} {r : List AreaAnswer} (b : Bounded areas)
+    (g : Settling areas kind sh e₀ n₀ i e n r) (h : i < length areas) (x : AreaBlocks)
     (of : x ≡ blocks_of (get_or areas i no_holding)) where
-  abbrev all : List Holding
-  all = take count areas
-
   abbrev here : Holding
   here = get_or areas i no_holding
 
@@ -85,12 +85,12 @@ module _ {areas : List Holding} {count kind sh e₀ n₀ i e n : ℕ} {r : List 
   inside : i < length r
   inside = omega (arith, g.room, b.few)
 
-  step : given_from kind sh (drop i all) e n
+  step : given_from kind sh (drop i areas) e n
       ≡ given_at kind sh here e n
-      ∷ given_from kind sh (drop (i + 1) all) (cond (partial here) (e - 1) e) (cond (partial here) (n / 2) n)
+      ∷ given_from kind sh (drop (i + 1) areas) (cond (partial here) (e - 1) e) (cond (partial here) (n / 2) n)
   step =
-      ap (λ l. given_from kind sh l e n) (from_place b h)
-      ∙ given-more kind sh here (drop (i + 1) all) e n
+      ap (λ l. given_from kind sh l e n) (drop-next areas i no_holding h)
+      ∙ given-more kind sh here (drop (i + 1) areas) e n
 
   untouched : drop (i + 1) r ≡ replicate (32 - (i + 1)) blank
   unfolding tail_of
@@ -100,13 +100,13 @@ module _ {areas : List Holding} {count kind sh e₀ n₀ i e n : ℕ} {r : List 
       ap (λ j. drop j r) (add-one i)
       ∙ ap tail_of (sym (drop-cons r i blank inside) ∙ g.past ∙ ap (λ j. replicate j blank) m)
 
-  pub settle-turns : (m : got.Gets) (e' n' : ℕ) →
+  settle-turns : (m : got.Gets) (e' n' : ℕ) →
       gets_means m ≡ cond (ltb 0 x.size.0) (gets_by kind sh (mark_of e n)) gets_nothing →
       e' ≡ cond (ltb 0 x.size.0) (e - 1) e → n' ≡ cond (ltb 0 x.size.0) (n / 2) n →
-      Settling all kind sh e₀ n₀ (i + 1) e' n' (set r i (answer m))
+      Settling areas kind sh e₀ n₀ (i + 1) e' n' (set r i (answer m))
   unfolding blocks_of
   settle-turns m e' n' mm ee ne =
-      let later = given_from kind sh (drop (i + 1) all) in
+      let later = given_from kind sh (drop (i + 1) areas) in
       let is-partial : ltb 0 x.size.0 ≡ partial here = sym (sized b h x of) in
       let new : AreaAnswer = answer m in
       let is : area_means new ≡ given_at kind sh here e n =
@@ -119,7 +119,7 @@ module _ {areas : List Holding} {count kind sh e₀ n₀ i e n : ℕ} {r : List 
       let e-is : e' ≡ cond (partial here) (e - 1) e = ee ∙ ap (λ q. cond q (e - 1) e) is-partial in
       let n-is : n' ≡ cond (partial here) (n / 2) n = ne ∙ ap (λ q. cond q (n / 2) n) is-partial in
       record {
-        within = omega (arith, all-given b);
+        within = omega arith;
         room = length-set r i new ∙ g.room;
         each =
             ap (λ q. map area_means q ++ later e' n') (ap (λ j. take j (set r i new)) (add-one i) ∙ take-suc-set r i new inside)
@@ -131,16 +131,28 @@ module _ {areas : List Holding} {count kind sh e₀ n₀ i e n : ℕ} {r : List 
         past = drop-set-lt (i + 1) r i new (omega arith) ∙ untouched;
       }
 
-pub settle-ends : {areas : List Holding} {count kind sh e₀ n₀ i e n : ℕ} {r : List AreaAnswer} → Bounded areas count
-    → Settling (take count areas) kind sh e₀ n₀ i e n r → count ≤ i → Settled (take count areas) kind sh e₀ n₀ r
+  -- a partial area takes the mark that is next
+  pub settle-partial : 0 < x.size.0 → (m : got.Gets) (e' n' : ℕ) → gets_means m ≡ gets_by kind sh (mark_of e n) → e' ≡ e - 1 → n' ≡ n / 2
+      → Settling areas kind sh e₀ n₀ (i + 1) e' n' (set r i (answer m))
+  settle-partial p m e' n' mm ee ne =
+      let t = lt-ltb 0 x.size.0 p in
+      settle-turns m e' n' (mm ∙ takes gets_nothing t) (ee ∙ takes e t) (ne ∙ takes n t)
+
+  -- any other gets nothing
+  pub settle-other : x.size.0 ≤ 0 → (m : got.Gets) (e' n' : ℕ) → gets_means m ≡ gets_nothing → e' ≡ e → n' ≡ n
+      → Settling areas kind sh e₀ n₀ (i + 1) e' n' (set r i (answer m))
+  settle-other p m e' n' mm ee ne =
+      let t = le-ltb 0 x.size.0 p in
+      settle-turns m e' n' (mm ∙ leaves (gets_by kind sh (mark_of e n)) t) (ee ∙ leaves (e - 1) t) (ne ∙ leaves (n / 2) t)
+
+pub settle-ends : {areas : List Holding} {kind sh e₀ n₀ i e n : ℕ} {r : List AreaAnswer}
+    → Settling areas kind sh e₀ n₀ i e n r → length areas ≤ i → Settled areas kind sh e₀ n₀ r
 unfolding given
-settle-ends {areas} {count} {kind} {sh} {i = i} {e = e} {n = n} {r = r} b g h =
-    let all = take count areas in
-    let long = all-given b in
-    let m : length all ≡ i = omega (arith, g.within) in
+settle-ends {areas} {kind} {sh} {i = i} {e = e} {n = n} {r = r} g h =
+    let m : length areas ≡ i = omega (arith, g.within) in
     record {
       each =
           ap (λ j. map area_means (take j r)) m ∙ sym (append-nil (map area_means (take i r)))
-          ∙ ap (λ l. map area_means (take i r) ++ given_from kind sh l e n) (sym (drop_of_length-le all {i = i} (omega arith))) ∙ g.each;
+          ∙ ap (λ l. map area_means (take i r) ++ given_from kind sh l e n) (sym (drop_of_length-le areas {i = i} h)) ∙ g.each;
       past = ap (λ j. drop j r) m ∙ g.past ∙ ap (λ j. replicate (32 - j) blank) (sym m);
     }

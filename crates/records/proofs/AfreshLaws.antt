@@ -160,7 +160,6 @@ no-faults ls s before (a ∷ areas) up each =
     in-range low high n w = both (le-leb low n w.0) (le-leb n high w.1)
 
 pub as-over-map : AsOverMap
-unfolding record_fault
 as-over-map s areas end reads ls draw =
     let holds = accepted s areas end reads in
     let blank = replicate (32 - length areas) no_kept in

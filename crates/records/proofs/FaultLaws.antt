@@ -1,12 +1,12 @@
 -- The faults of a record: the loop that looks for the first, and what holds of a record without one. Assumes nothing.
-use Prim.Native.Nat.{ℕ, zero, suc, ◌+◌, ◌%◌, ◌≤◌, ◌<◌}
+use Prim.Native.Nat.{ℕ, zero, suc, ◌+◌, ◌%◌, ◌≤◌, ◌<◌, zero-le}
 use mathlib.Core.Path.{◌≡◌, refl, sym, ap, subst, ◌∙◌}
 use mathlib.Core.Bool.{Bool, true, false, cond, not}
 use mathlib.Core.List.{List, [], ◌∷◌, map}
 use native.Mathlib.Omega.{arith}
 use lib.Dec.{ltb, leb, eqb}
-use lib.ListN.{length, get_or, take, drop, length-map, drop_of_length-le}
-use borrow.Author.Tests.{eqb-true, eqb-false, eq-eqb, ne_eqb, leb-true, lt-ltb, le-ltb}
+use lib.ListN.{length, get_or, take, drop, drop_of_length-le}
+use borrow.Author.Tests.{eqb-true, eqb-false, eq-eqb, ne_eqb, leb-true, lt-ltb}
 use Rattle.lists.specs.Sums.{All}
 use Rattle.lists.proofs.Tests.{by-test, first_of, second-of}
 use Rattle.lists.proofs.SumLaws.{drop-next}
@@ -69,7 +69,6 @@ passed true m n e = (refl, e)
 passed false m n e = absurd (omega arith)
 
 in-limits : (before : ℕ) (k : Kept) → area_fault before k ≡ 0 → InLimits k
-unfolding area_fault
 in-limits before k e =
     let (number, e1) = passed (within 1 416 k.number) 1 _ e in
     let (order, e2) = passed (ltb before k.number) 3 _ e1 in
@@ -119,52 +118,35 @@ take-map f (suc n) (a ∷ l) = ap (λ m. f a ∷ m) (take-map f n l)
 
 -- a record without a fault: its count and its areas are within the limits
 pub no-fault : (r : Record) → record_fault r ≡ 0 → (within 1 32 r.count ≡ true) × All InLimits (take r.count r.areas)
-unfolding record_fault
 no-fault r e =
     by-test (within 1 32 r.count)
     (λ t. (t, all-in-limits 0 (take r.count r.areas) (simp t at e)))
     (λ t. absurd (let z : 2 ≡ 0 = simp t at e in omega arith))
 
 -- what a proposal asks of them
-pub record-bounded : (r : Record) (hs : List Holding) → length r.areas ≡ 32 → hs ≡ map held_by r.areas → record_fault r ≡ 0
-    → Bounded hs r.count × (take r.count hs ≡ map held (take r.count r.areas))
-record-bounded r hs size e z =
+pub record-bounded : (r : Record) → record_fault r ≡ 0
+    → Bounded (take r.count (map held_by r.areas)) × (take r.count (map held_by r.areas) ≡ map held (take r.count r.areas))
+record-bounded r z =
     let (count, all) = no-fault r z in
-    let same : take r.count hs ≡ map held (take r.count r.areas) =
-    ap (take r.count) e ∙ take-map held_by r.count r.areas ∙ held-areas (take r.count r.areas) all in (
+    let few = leb-true r.count 32 (second-of (leb 1 r.count) (leb r.count 32) count) in
+    let same = take-map held_by r.count r.areas ∙ held-areas (take r.count r.areas) all in (
       record {
-        few = leb-true r.count 32 (second-of (leb 1 r.count) (leb r.count 32) count);
-        entries = ap length e ∙ length-map r.areas held_by ∙ size;
+        few = omega (arith, few, take-most r.count (map held_by r.areas));
         limits = subst (All Limits) (sym same) (held-limits (take r.count r.areas) all);
       },
       same,
     )
+  where
+    take-most : {A : Type 0} (n : ℕ) (l : List A) → length (take n l) ≤ n
+    take-most zero l = zero-le
+    take-most (suc n) [] = zero-le
+    take-most (suc n) (a ∷ l) = let later = take-most n l in omega arith
 
--- ---- the fault of an area, by its tests in turn
+-- ---- the fault of an area that has none
 
-module _ (before : ℕ) (k : Kept) where
-  pub fault-number : within 1 416 k.number ≡ false → 2 ≡ area_fault before k
-  unfolding area_fault
-  fault-number n = simp n
-
-  module _ (n : within 1 416 k.number ≡ true) where
-    pub fault-order : k.number ≤ before → 4 ≡ area_fault before k
-    unfolding area_fault
-    fault-order o = simp (n, le-ltb before k.number o)
-
-    module _ (o : before < k.number) where
-      pub fault-weight : within 1 65_535 k.weight ≡ false → 2 ≡ area_fault before k
-      unfolding area_fault
-      fault-weight w = simp (n, lt-ltb before k.number o, w)
-
-      module _ (w : within 1 65_535 k.weight ≡ true) where
-        pub fault-people : within 1 40_000_000 k.population.0 ≡ false → 5 ≡ area_fault before k
-        unfolding area_fault
-        fault-people p = simp (n, lt-ltb before k.number o, w, p)
-
-        pub fault-none : within 1 40_000_000 k.population.0 ≡ true → 0 ≡ area_fault before k
-        unfolding area_fault
-        fault-none p = simp (n, lt-ltb before k.number o, w, p)
+pub fault-none : (before : ℕ) (k : Kept) → within 1 416 k.number ≡ true → before < k.number → within 1 65_535 k.weight ≡ true
+    → within 1 40_000_000 k.population.0 ≡ true → 0 ≡ area_fault before k
+fault-none before k n o w p = simp (n, lt-ltb before k.number o, w, p)
 
 -- ---- the fault of a record
 
@@ -177,12 +159,7 @@ numbered Order e = omega arith
 numbered Population e = omega arith
 
 module _ (r : Record) where
-  pub fault-count : within 1 32 r.count ≡ false → 2 ≡ record_fault r
-  unfolding record_fault
-  fault-count t = simp t
-
   pub fault-areas : within 1 32 r.count ≡ true → {n : ℕ} → n ≡ areas_fault 0 (take r.count r.areas) → n ≡ record_fault r
-  unfolding record_fault
   fault-areas t e = e ∙ (simp t)
 
   -- the proposal from it

@@ -9,7 +9,7 @@ use Rattle.register.specs.declared.Licence.{Licence}
 use Rattle.register.specs.Licences.{full_licence}
 use Rattle.records.specs.declared.Kept.{Kept}
 use Rattle.records.specs.declared.Record.{Record}
-use Rattle.records.specs.Record.{no_kept, loaded, added, subtracted, changed, area_fault, areas_fault, record_fault}
+use Rattle.records.specs.Record.{no_kept, loaded, added, subtracted, changed, areas_fault, record_fault}
 use Rattle.records.specs.Afresh.{counted_afresh}
 
 -- ---- the map: area 7 has a row with people 5, 0, 4, 3, 8, and area 9 one cell with 100
@@ -134,5 +134,5 @@ faults_right [] = true
 faults_right (refused r n ∷ more) = eqb (record_fault r) n && faults_right more
 
 pub faults-right : faults_right faults ≡ true
-unfolding record_fault areas_fault area_fault
+unfolding areas_fault
 faults-right = refl

@@ -1,40 +1,40 @@
 -- What the ways in of a record ensure, over any bytes, any register and any record. Assumes nothing.
-use Rattle.std.specs.Prelude.{ℕ, ◌≡◌, cond, List, [], ◌∷◌, eqb}
+use Rattle.std.specs.Prelude.{ℕ, ◌≡◌, Result, Ok, Err, cond, List, [], ◌∷◌, eqb}
 use Rattle.map.specs.Reading.{Read, bad, good}
 use Rattle.map.specs.Format.{Area}
-use Rattle.map.specs.Answers.{fault_number, checked_number}
+use Rattle.map.specs.declared.Fault.{Fault}
+use Rattle.map.specs.Answers.{fault_number}
 use Rattle.register.specs.declared.Licence.{Licence}
 use Rattle.register.specs.declared.Register.{Register}
 use Rattle.register.specs.declared.Step.{Step}
 use Rattle.register.specs.Licences.{in_force, struck}
-use Rattle.register.specs.Rules as alone
+use Rattle.register.specs.declared.GrantRefusal.{GrantRefusal}
+use Rattle.register.specs.declared.NotInForce.{NotInForce}
+use Rattle.register.specs.Rules.{grant_number, cancel_number}
 use Rattle.register.specs.Promises.{GrantStep, CancelStep}
+use Rattle.coverage.specs.Answers.{Answer, refused, answers, answer_of}
 use Rattle.records.specs.declared.Record.{Record}
-use Rattle.records.specs.declared.Loaded.{Loaded}
-use Rattle.records.specs.declared.KeptGrantAnswer.{KeptGrantAnswer}
-use Rattle.records.specs.declared.KeptGrantAnswer.TheVariants as Grant
-use Rattle.records.specs.declared.KeptCancelAnswer.{KeptCancelAnswer}
-use Rattle.records.specs.declared.KeptCancelAnswer.TheVariants as Cancel
-use Rattle.records.specs.declared.KeptGranted.{KeptGranted}
-use Rattle.records.specs.declared.KeptCancelled.{KeptCancelled}
-use Rattle.records.specs.Record.{loaded, no_record, added, subtracted, changed}
+use Rattle.records.specs.declared.KeptRefusal.{KeptRefusal}
+use Rattle.records.specs.declared.KeptRefusal.TheVariants as refusal
+use Rattle.records.specs.declared.Next.{Next}
+use Rattle.records.specs.Record.{loaded, added, subtracted, changed}
 
--- the number of each answer, 0 where the call is accepted
-abbrev pub grant_number : KeptGrantAnswer → ℕ
-grant_number (Grant.Refused f) = fault_number f
-grant_number (Grant.Answered a) = alone.grant_number a
+-- the number of a refusal, by those of the call without a record
+abbrev pub Numbered : {E : Type 0} → (Gives : E → ℕ → Type 0) → KeptRefusal E → ℕ → Type 0
+Numbered Gives (refusal.Map f) n = n ≡ fault_number f
+Numbered Gives (refusal.Register e) n = Gives e n
 
-abbrev pub cancel_number : KeptCancelAnswer → ℕ
-cancel_number (Cancel.Refused f) = fault_number f
-cancel_number (Cancel.Answered a) = alone.cancel_number a
+abbrev pub kept_number : {E : Type 0} → (number : E → ℕ) → KeptRefusal E → ℕ
+kept_number number (refusal.Map f) = fault_number f
+kept_number number (refusal.Register e) = number e
 
--- "Loading a map gives sums of 0, or is refused by 1 to 5": the number, which is 0 only where nothing is refused, and the record
-abbrev pub LoadStep : Read (List Area) → (number : ℕ) → Record → Type 0
-LoadStep (bad n) number r = (number ≡ n) × (r ≡ no_record) × (number ≡ 0 → ⊥)
-LoadStep (good areas e) number r = (number ≡ 0) × (r ≡ loaded areas)
+-- "Loading a map gives sums of 0, or is refused by 1 to 5"
+abbrev pub load_by : Read (List Area) → Answer Record
+load_by (bad n) = refused n
+load_by (good areas e) = answers (loaded areas)
 
-abbrev pub LoadDone : Read (List Area) → Loaded → Type 0
-LoadDone m r = LoadStep m (checked_number r.checked) r.kept
+abbrev pub LoadDone : Read (List Area) → Result Record Fault → Type 0
+LoadDone m r = answer_of r ≡ load_by m
 
 -- "With a record both read the map and are first refused by 1 to 5", which leaves both as they were. Else the register and the number are
 -- those of the call without a record, and the record changes where the call is accepted
@@ -52,9 +52,18 @@ abbrev pub CancelKept : Read (List Area) → Register → Record → ℕ → Ste
 CancelKept m old kept s =
     KeptStep m old kept (CancelStep old s) (λ areas. changed (subtracted (struck s (in_force old.places)) areas) kept)
 
--- the same where the answer is an enum, by its number
-abbrev pub GrantDone : Read (List Area) → Register → Record → Licence → KeptGranted → Type 0
-GrantDone m old kept l r = GrantKept m old kept l (record { next = r.next; refusal = grant_number r.answer }) r.kept
+-- what the caller goes on with after a result: a refused call leaves both as they were
+abbrev pub next_step : {E : Type 0} → (number : E → ℕ) → (old : Register) → Result Next (KeptRefusal E) → Step
+next_step number old (Ok next) = record { next = next.register; refusal = 0 }
+next_step number old (Err r) = record { next = old; refusal = kept_number number r }
 
-abbrev pub CancelDone : Read (List Area) → Register → Record → ℕ → KeptCancelled → Type 0
-CancelDone m old kept s r = CancelKept m old kept s (record { next = r.next; refusal = cancel_number r.answer }) r.kept
+abbrev pub next_record : {E : Type 0} → (old : Record) → Result Next (KeptRefusal E) → Record
+next_record old (Ok next) = next.kept
+next_record old (Err r) = old
+
+-- the same of that
+abbrev pub GrantDone : Read (List Area) → Register → Record → Licence → Result Next (KeptRefusal GrantRefusal) → Type 0
+GrantDone m old kept l r = GrantKept m old kept l (next_step grant_number old r) (next_record kept r)
+
+abbrev pub CancelDone : Read (List Area) → Register → Record → ℕ → Result Next (KeptRefusal NotInForce) → Type 0
+CancelDone m old kept s r = CancelKept m old kept s (next_step cancel_number old r) (next_record kept r)

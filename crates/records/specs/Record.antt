@@ -34,10 +34,6 @@ record_by f areas = record { count = length areas; areas = map f areas ++ replic
 abbrev pub loaded : List Area → Record
 loaded = record_by kept_area
 
--- what a refused load hands back
-abbrev pub no_record : Record
-no_record = record { count = 0; areas = replicate 32 no_kept }
-
 -- ---- "A grant adds the coverage of its ground and a cancellation subtracts it"
 
 -- an entry with other sums: "Of a record, a grant or a cancellation changes only sums"
@@ -87,7 +83,7 @@ held k = record { number = k.number; weight = k.weight; population = k.populatio
 
 -- "refuses a record outside document 01's limits by 2 for a count, number or weight, 4 for order, 5 for a population, the first fault in
 -- the map's field order": the fault of an area after one with the number `before`, 0 for none
-unfoldable pub area_fault : (before : ℕ) → Kept → ℕ
+abbrev pub area_fault : (before : ℕ) → Kept → ℕ
 area_fault before k =
     cond (not (within 1 416 k.number)) 2
     (cond (not (ltb before k.number)) 4
@@ -100,7 +96,7 @@ areas_fault before [] = 0
 areas_fault before (k ∷ l) = cond (eqb (area_fault before k) 0) (areas_fault k.number l) (area_fault before k)
 
 -- the first fault of a record: its count, then each area in turn
-unfoldable pub record_fault : Record → ℕ
+abbrev pub record_fault : Record → ℕ
 record_fault r = cond (within 1 32 r.count) (areas_fault 0 (take r.count r.areas)) 2
 
 -- "then 12": else it is the proposal of the areas with their kept sums

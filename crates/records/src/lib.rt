@@ -3,19 +3,21 @@
 // from the record reads no map. The ways in are Record::load, grant, cancel and propose.
 #![tactic(auto)]
 
-ghost use Rattle.std.specs.Prelude.{◌≡◌, cond, map as each, ◌≤◌, eqb, take};
-ghost use Rattle.map.specs.Format.{read_map, within};
+ghost use Rattle.std.specs.Prelude.{◌≡◌, ◌≤◌, map as each};
+ghost use Rattle.map.specs.Format.{read_map};
 ghost use Rattle.map.specs.Answers.{checked_number};
+ghost use Rattle.coverage.specs.declared.CoverageSums.{CoverageSums as Sums};
 ghost use Rattle.proposal.specs.Promises.{Answers};
+ghost use Rattle.records.specs.declared.KeptRefusal.TheVariants.{Map};
 ghost use Rattle.records.specs.Record.{kept, entries, area_fault, record_fault, proposal_from};
-ghost use Rattle.records.specs.Promises.{grant_number, cancel_number, LoadDone, GrantDone, CancelDone};
-ghost use Rattle.records.specs.Code.{sums_in, moved_by, moved, moved_all, held_by};
+ghost use Rattle.records.specs.Promises.{Numbered, LoadDone, GrantDone, CancelDone};
+ghost use Rattle.records.specs.Code.{sums_in, plus_sums, minus_sums, moved, moved_all, held_by};
 
 use coverage::{CoverageSums, Holding};
-use map::{Checked, Fault};
-use proposal::Proposal;
-use register::{CancelAnswer, GrantAnswer, Licence, Register};
-use units::{Cells, MhzPops, People};
+use map::Fault;
+use proposal::{Proposal, ProposalRefusal};
+use register::{GrantRefusal, Licence, NotInForce, Register};
+use units::{Amount, Cells, MhzPops, People};
 
 // What a record keeps of an area: its number, weight and population as the map had them, and its sums over the licences in force, c in
 // MHz-pops and cells. There is no padding.
@@ -30,6 +32,7 @@ pub struct Kept {
 }
 
 // The record of a map: the first count of areas, and blank entries past them. There is no padding.
+// Kept as an array with a count: the engine has no heap, and a record is to be kept and lent as it is laid out here.
 #[repr(C)]
 #[derive(Clone, Copy)]
 pub struct Record {
@@ -37,171 +40,109 @@ pub struct Record {
     pub areas: [Kept; Record::AREAS],
 }
 
-// A record just loaded, or why the map is refused: then the record is blank.
+// Why a call with a record is refused: by the map, 1 to 5, or as without a record.
+#[derive(Clone, Copy, Debug, PartialEq, Eq)]
+pub enum KeptRefusal<E> {
+    Map(Fault),
+    Register(E),
+}
+
+// What an accepted call makes: the next register and the next record.
 #[derive(Clone, Copy)]
-pub struct Loaded {
+pub struct Next {
+    pub register: Register,
     pub kept: Record,
-    pub checked: Checked,
 }
 
-// What a grant with a record answers: refused by the map, 1 to 5, or as without a record.
-#[derive(Clone, Copy)]
-pub enum KeptGrantAnswer {
-    Refused(Fault),
-    Answered(GrantAnswer),
+impl<E> From<Fault> for KeptRefusal<E> {
+    ghost from_gives = { λ f r. r ≡ Map f };
+
+    fn from(f: Fault) -> KeptRefusal<E> {
+        KeptRefusal::Map(f)
+    }
 }
 
-// What a cancellation with a record answers.
-#[derive(Clone, Copy)]
-pub enum KeptCancelAnswer {
-    Refused(Fault),
-    Answered(CancelAnswer),
-}
+// Document 01's number of the refusal.
+impl<E: Into<u32>> From<KeptRefusal<E>> for u32 {
+    ghost from_gives = { λ r n. Numbered E.converts r n };
 
-// A grant with a record hands back the next register, the next record and its answer.
-#[derive(Clone, Copy)]
-pub struct KeptGranted {
-    pub next: Register,
-    pub kept: Record,
-    pub answer: KeptGrantAnswer,
-}
-
-// So does a cancellation.
-#[derive(Clone, Copy)]
-pub struct KeptCancelled {
-    pub next: Register,
-    pub kept: Record,
-    pub answer: KeptCancelAnswer,
-}
-
-// The sums of the area with a number, or that no area has it.
-#[derive(Clone, Copy)]
-enum AreaSums {
-    Lacking,
-    At(CoverageSums),
-}
-
-impl KeptGrantAnswer {
-    // Document 01's number of the answer: 0 where the grant is accepted.
-    pub fn number(self) -> u32
-        ensures { result ≡ grant_number self }
-    {
-        match self {
-            KeptGrantAnswer::Refused(f) => f.number(),
-            KeptGrantAnswer::Answered(a) => a.number(),
+    fn from(r: KeptRefusal<E>) -> u32 {
+        match r {
+            KeptRefusal::Map(f) => u32::from(f),
+            KeptRefusal::Register(e) => e.into(),
         }
     }
 }
 
-impl KeptCancelAnswer {
-    // Document 01's number of the answer: 0 where the cancellation is accepted.
-    pub fn number(self) -> u32
-        ensures { result ≡ cancel_number self }
-    {
-        match self {
-            KeptCancelAnswer::Refused(f) => f.number(),
-            KeptCancelAnswer::Answered(a) => a.number(),
+// What is kept of an area with its sums.
+impl From<Holding> for Kept {
+    ghost from_gives = { λ h k. k ≡ kept h };
+
+    fn from(h: Holding) -> Kept {
+        Kept {
+            number: u32::from(h.number),
+            weight: h.weight,
+            population: h.population,
+            mhz_pops: h.covered,
+            cells: h.cells,
+        }
+    }
+}
+
+// The area as a proposal reads it. A number above the largest u16 is outside the limits, so it gets no proposal.
+impl From<Kept> for Holding {
+    ghost from_gives = { λ k h. h ≡ held_by k };
+
+    fn from(k: Kept) -> Holding {
+        Holding {
+            number: (k.number % 65536) as u16,
+            weight: k.weight,
+            population: k.population,
+            covered: k.mhz_pops,
+            cells: k.cells,
         }
     }
 }
 
 impl Kept {
-    // What stands at the entries past the areas of a map.
-    const NONE: Kept = Kept {
-        number: 0,
-        weight: 0,
-        population: People(0),
-        mhz_pops: MhzPops(0),
-        cells: Cells(0),
-    };
-
-    // What is kept of an area with its sums.
-    fn of(h: Holding) -> Self
-        ensures { result ≡ kept h }
-    {
-        let population = h.population;
-        let mhz_pops = h.covered;
-        let cells = h.cells;
-        Kept {
-            number: h.number as u32,
-            weight: h.weight,
-            population,
-            mhz_pops,
-            cells,
-        }
-    }
-
-    // The area as a proposal reads it. A number above the largest u16 is outside the limits, so it gets no proposal.
-    fn holding(self) -> Holding
-        ensures { result ≡ held_by self }
-    {
-        let population = self.population;
-        let covered = self.mhz_pops;
-        let cells = self.cells;
-        Holding {
-            number: (self.number % 65536) as u16,
-            weight: self.weight,
-            population,
-            covered,
-            cells,
-        }
-    }
-
     // The first fault of an area, in the map's field order: number, weight, population.
-    fn check(self, before: u32) -> Checked
+    fn check(self, before: u32) -> Result<(), Fault>
         ensures { checked_number result ≡ area_fault before self }
     {
-        if !in_limits(1, 416, self.number as u64) {
-            return Checked::Refused(Fault::Limit);
+        if !(1..=416).contains(&self.number) {
+            return Err(Fault::Limit);
         }
         if self.number <= before {
-            return Checked::Refused(Fault::Order);
+            return Err(Fault::Order);
         }
-        if !in_limits(1, 65_535, self.weight as u64) {
-            return Checked::Refused(Fault::Limit);
+        if !(1..=65_535).contains(&self.weight) {
+            return Err(Fault::Limit);
         }
-        let population = self.population;
-        if !in_limits(1, 40_000_000, population.0) {
-            return Checked::Refused(Fault::Population);
+        if !(1..=40_000_000).contains(&self.population.0) {
+            return Err(Fault::Population);
         }
-        Checked::Accepted
+        Ok(())
     }
 
-    // The area after a call, by what was counted in the areas of a map: it stays where none of them has its number.
-    fn after(self, adds: bool, areas: [Holding; 32], count: usize) -> Self
-        requires { count ≤ 32 }
-        ensures { result ≡ moved adds (sums_in self.number (take count areas)) self }
+    // The area with sums added to its own.
+    fn plus(self, sums: CoverageSums) -> Kept
+        ensures { result ≡ plus_sums sums self }
     {
-        match sums_in(areas, count, self.number) {
-            AreaSums::Lacking => self,
-            AreaSums::At(sums) => self.changed(adds, sums),
-        }
-    }
-
-    // The area with sums added to its own, or subtracted.
-    fn changed(self, adds: bool, sums: CoverageSums) -> Self
-        ensures { result ≡ moved_by adds sums self }
-    {
-        let population = self.population;
-        let mhz_pops = self.mhz_pops;
-        let cells = self.cells;
-        let more_mhz_pops = sums.mhz_pops;
-        let more_cells = sums.cells;
-        if adds {
-            return Kept {
-                number: self.number,
-                weight: self.weight,
-                population,
-                mhz_pops: mhz_pops.plus(more_mhz_pops),
-                cells: cells.plus(more_cells),
-            };
-        }
         Kept {
-            number: self.number,
-            weight: self.weight,
-            population,
-            mhz_pops: mhz_pops.minus(more_mhz_pops),
-            cells: cells.minus(more_cells),
+            mhz_pops: self.mhz_pops.plus(sums.mhz_pops),
+            cells: self.cells.plus(sums.cells),
+            ..self
+        }
+    }
+
+    // The area with sums subtracted from its own.
+    fn minus(self, sums: CoverageSums) -> Kept
+        ensures { result ≡ minus_sums sums self }
+    {
+        Kept {
+            mhz_pops: self.mhz_pops.minus(sums.mhz_pops),
+            cells: self.cells.minus(sums.cells),
+            ..self
         }
     }
 }
@@ -211,202 +152,125 @@ impl Record {
     pub const AREAS: usize = 32;
 
     // The record of a map for an empty register: each area's number, weight and population, with sums of 0.
-    pub fn load(map: &[u8]) -> Loaded
+    pub fn load(map: &[u8]) -> Result<Record, Fault>
         ensures { LoadDone (read_map map.now) result }
     {
-        let held = coverage::parts::holdings_in(map, Register::empty());
-        let areas = held.areas;
-        let checked = held.checked;
-        Loaded {
-            kept: Record {
-                count: held.count as u64,
-                areas: kept_in(areas),
-            },
-            checked,
-        }
+        let held = coverage::parts::holdings_in(map, Register::empty())?;
+        Ok(Record {
+            count: held.count as u64,
+            areas: held.areas.map(Kept::from),
+        })
     }
 
     // Refuses by 1 to 5, and then as the register's own grant does. Accepted, what the licence covers is added to the sums. What it covers
     // is counted from a register that has this licence alone.
-    pub fn grant(mut self, map: &[u8], register: Register, l: Licence) -> KeptGranted
+    pub fn grant(
+        self,
+        map: &[u8],
+        register: Register,
+        l: Licence,
+    ) -> Result<Next, KeptRefusal<GrantRefusal>>
         ensures { GrantDone (read_map map.now) register self l result }
     {
-        let alone = Register::empty().grant_step(l);
-        let lone = alone.next;
-        let held = coverage::parts::holdings_in(map, lone);
-        let checked = held.checked;
-        match checked {
-            Checked::Refused(f) => KeptGranted {
-                next: register,
-                kept: self,
-                answer: KeptGrantAnswer::Refused(f),
-            },
-            Checked::Accepted => {
-                let granted = register.grant(l);
-                let answer = granted.answer;
-                let next = granted.next;
-                let areas = held.areas;
-                self = self.after(answer.number(), true, areas, held.count);
-                KeptGranted {
-                    next,
-                    kept: self,
-                    answer: KeptGrantAnswer::Answered(answer),
-                }
-            }
-        }
+        let alone = Register::empty().grant_step(l).next;
+        let held = coverage::parts::holdings_in(map, alone)?;
+        let register = register.grant(l).map_err(KeptRefusal::Register)?;
+        Ok(Next {
+            register,
+            kept: self.changed(held.areas(), Kept::plus),
+        })
     }
 
     // Refuses by 1 to 5, and then as the register's own cancellation does. Accepted, what was struck is subtracted from the sums.
-    pub fn cancel(mut self, map: &[u8], register: Register, call_sign: u32) -> KeptCancelled
+    pub fn cancel(
+        self,
+        map: &[u8],
+        register: Register,
+        call_sign: u32,
+    ) -> Result<Next, KeptRefusal<NotInForce>>
         ensures { CancelDone (read_map map.now) register self call_sign result }
     {
-        let held = coverage::parts::holdings_in(map, register.struck(call_sign));
-        let checked = held.checked;
-        match checked {
-            Checked::Refused(f) => KeptCancelled {
-                next: register,
-                kept: self,
-                answer: KeptCancelAnswer::Refused(f),
-            },
-            Checked::Accepted => {
-                let cancelled = register.cancel(call_sign);
-                let answer = cancelled.answer;
-                let next = cancelled.next;
-                let areas = held.areas;
-                self = self.after(answer.number(), false, areas, held.count);
-                KeptCancelled {
-                    next,
-                    kept: self,
-                    answer: KeptCancelAnswer::Answered(answer),
-                }
-            }
-        }
+        let held = coverage::parts::holdings_in(map, register.struck(call_sign))?;
+        let register = register.cancel(call_sign).map_err(KeptRefusal::Register)?;
+        Ok(Next {
+            register,
+            kept: self.changed(held.areas(), Kept::minus),
+        })
     }
 
     // The proposal for what the record keeps: refused by its first fault, 2, 4 or 5, and then by 12.
-    pub fn propose(self, draw: u32) -> Proposal
+    pub fn propose(self, draw: u32) -> Result<Proposal, ProposalRefusal>
         ensures { Answers (proposal_from self draw) result }
     {
-        match self.check() {
-            Checked::Refused(f) => proposal::parts::refused_by(f),
-            Checked::Accepted => {
-                let areas = self.areas;
-                proposal::parts::propose_from(held_in(areas), self.count as usize, draw)
-            }
-        }
+        self.check()?;
+        let areas = self.areas.map(Holding::from);
+        proposal::parts::propose_from(&areas[..self.count as usize], draw)
     }
 
     // The first fault of a record in the map's field order: its count, then each area's number, weight and population in turn.
-    fn check(self) -> Checked
+    fn check(self) -> Result<(), Fault>
         ensures { checked_number result ≡ record_fault self }
     {
-        if !in_limits(1, 32, self.count) {
-            return Checked::Refused(Fault::Limit);
+        if !(1..=32).contains(&self.count) {
+            return Err(Fault::Limit);
         }
-        let count = self.count as usize;
         let mut before: u32 = 0;
-        let mut i: usize = 0;
-        while i < count {
-            let k = self.areas[i];
-            match k.check(before) {
-                Checked::Refused(f) => {
-                    return Checked::Refused(f);
-                }
-                Checked::Accepted => {
-                    before = k.number;
-                }
-            }
-            i += 1;
+        for k in &self.areas[..self.count as usize] {
+            k.check(before)?;
+            before = k.number;
         }
-        Checked::Accepted
+        Ok(())
     }
 
     // How many areas a grant and a cancellation take the record to have: at most 32.
     fn entries(self) -> usize
         ensures { (result ≡ entries self) × (result ≤ 32) }
     {
-        if self.count <= 32 {
-            return self.count as usize;
-        }
-        Self::AREAS
+        self.count.min(32) as usize
     }
 
-    // The record after a call with a number, by what was counted in the areas of a map: a refused one changes nothing.
-    fn after(self, refusal: u32, adds: bool, areas: [Holding; 32], count: usize) -> Self
-        requires { count ≤ 32 }
-        ensures { result ≡ cond (eqb refusal 0) (moved_all adds (take count areas) self) self }
-    {
-        if refusal != 0 {
-            return self;
-        }
-        self.changed(adds, areas, count)
-    }
-
-    // Each area's sums with what was counted in the map's area of its number added, or subtracted.
-    fn changed(mut self, adds: bool, areas: [Holding; 32], count: usize) -> Self
-        requires { count ≤ 32 }
-        ensures { result ≡ moved_all adds (take count areas) self }
+    // The areas up to the count, changed by what was counted in the areas of a map.
+    fn changed<F: Fn(Kept, CoverageSums) -> Kept>(self, areas: &[Holding], change: F) -> Self
+        requires { F.IsAlwaysCallable change }
+        ensures { (by : Sums → Kept → Kept) → ((k : Kept) (s : Sums) (r : Kept) → F.post change k s r → r ≡ by s k)
+            → result ≡ moved_all by areas.now self }
     {
         let entries = self.entries();
-        let mut i: usize = 0;
-        while i < entries {
-            let k = self.areas[i];
-            self.areas[i] = k.after(adds, areas, count);
-            i += 1;
+        let mut kept = self.areas;
+        change_each(&mut kept[..entries], areas, change);
+        Record {
+            count: self.count,
+            areas: kept,
         }
-        self
     }
 }
 
-// Whether a field is within its limits, both ends included.
-fn in_limits(low: u64, high: u64, n: u64) -> bool
-    ensures { result ≡ within low high n }
+// Each area changed by what was counted in the map's area of its number: it stays where the map has none.
+fn change_each<F: Fn(Kept, CoverageSums) -> Kept>(
+    entries: &mut [Kept],
+    areas: &[Holding],
+    change: F,
+)
+    requires { F.IsAlwaysCallable change }
+    ensures { (by : Sums → Kept → Kept) → ((k : Kept) (s : Sums) (r : Kept) → F.post change k s r → r ≡ by s k)
+        → entries.new ≡ each (λ k. moved by (sums_in k.number areas.now) k) entries.old }
 {
-    (low <= n) & (n <= high)
-}
-
-// c and the sum of cells of the area with a number, among the first count.
-fn sums_in(areas: [Holding; 32], count: usize, number: u32) -> AreaSums
-    requires { count ≤ 32 }
-    ensures { result ≡ sums_in number (take count areas) }
-{
-    let mut i: usize = 0;
-    while i < count {
-        let h = areas[i];
-        if h.number as u32 == number {
-            let mhz_pops = h.covered;
-            let cells = h.cells;
-            return AreaSums::At(CoverageSums { mhz_pops, cells });
+    for k in entries {
+        if let Some(sums) = sums_in(areas, k.number) {
+            *k = change(*k, sums);
         }
-        i += 1;
     }
-    AreaSums::Lacking
 }
 
-// What is kept of each area, one area a turn.
-fn kept_in(areas: [Holding; 32]) -> [Kept; 32]
-    ensures { result ≡ each kept areas }
+// c and the sum of cells of the area with a number.
+fn sums_in(areas: &[Holding], number: u32) -> Option<CoverageSums>
+    ensures { result ≡ sums_in number areas.now }
 {
-    let mut entries = [Kept::NONE; 32];
-    let mut i: usize = 0;
-    while i < 32 {
-        let h = areas[i];
-        entries[i] = Kept::of(h);
-        i += 1;
-    }
-    entries
-}
-
-// Each area as a proposal reads it, one area a turn.
-fn held_in(entries: [Kept; 32]) -> [Holding; 32]
-    ensures { result ≡ each held_by entries }
-{
-    let mut areas = [Holding::NONE; 32];
-    let mut i: usize = 0;
-    while i < 32 {
-        let k = entries[i];
-        areas[i] = k.holding();
-        i += 1;
-    }
     areas
+        .iter()
+        .find(|h| u32::from(h.number) == number)
+        .map(|h| CoverageSums {
+            mhz_pops: h.covered,
+            cells: h.cells,
+        })
 }

@@ -7,11 +7,14 @@ use mathlib.Core.Logic.{◌≢◌}
 use native.Mathlib.Omega.{arith}
 use native.Mathlib.Nat.{mul-add, mul-one, mul-zero, one-mul}
 use native.Mathlib.Numerals.{add-one}
-use lib.Dec.{leb}
+use lib.Dec.{leb, eqb}
 use lib.IntN.{ℤ, pos}
+use Rattle.std.specs.Prelude.{Some, is_some, unwrap_or}
 use lib.ListN.{length, get_or, set, take, replicate, length-set, length-replicate, get_or-eq_default}
 use lib.Seq.{take_all, get_or-set_same, get_or-set_other}
 use borrow.Author.Tests.{leb-true, leb-false}
+use Rattle.std.specs.Option.{option_eq}
+use Rattle.std.specs.List.{IsAfterLastMatch}
 use Rattle.lists.specs.Sums.{total, flag, count, sum_to}
 use Rattle.lists.proofs.Tests.{by-test, not-both}
 use Rattle.lists.proofs.SumLaws.{total-next, total-same}
@@ -21,36 +24,20 @@ use Rattle.register.specs.declared.Ground.{Ground}
 use Rattle.register.specs.declared.Ground.TheVariants.{Area, Box}
 use Rattle.register.specs.declared.Licence.{Licence}
 use Rattle.register.specs.declared.FlatLicence.{FlatLicence}
-use Rattle.register.specs.declared.Boxes.{Boxes}
-use Rattle.register.specs.Licences.{licence_of, free_place, has_sign, in_force}
+use Rattle.boxes.specs.declared.Boxes.{Boxes}
+use Rattle.register.specs.Licences.{licence_of, free_place, has_sign, standing, in_force}
 use Rattle.register.specs.Sums.{at_place, passes_at}
-use Rattle.register.specs.Grounds.{names, is_box, has_box, no_box, box_of, place_box, box_from, EdgesDone, BoxesDone}
-use Rattle.register.proofs.Laws.{sign-is, sign-not}
+use Rattle.register.specs.Grounds.{is_area, names, ground_area, names_at, is_box, has_box, no_box, box_of, ground_box, box_at, place_box}
+use Rattle.register.specs.Grounds.{box_from, LastBox, EdgesDone, BoxesDone}
+use Rattle.register.proofs.Laws.{sign-is}
 use Rattle.register.proofs.Sums.{in-force-total}
 
 -- ---- what stands at a place, by its call sign
 
 module _ (l : Licence) where
-  pub free-adds : (f : Licence → ℕ) → l.call_sign ≡ 0 → at_place f l ≡ 0
-  unfolding at_place
-  free-adds f e = simp (sign-is 0 l e)
-
-  pub held-adds : (f : Licence → ℕ) → (l.call_sign ≡ 0 → ⊥) → at_place f l ≡ f l
-  unfolding at_place
-  held-adds f n = simp (sign-not 0 l n)
-
-  -- what it adds, multiplied by a number of the licence
-  pub times-adds : (w f : Licence → ℕ) → w l * at_place f l ≡ at_place (λ x. w x * f x) l
-  unfolding at_place
-  times-adds w f = by-test (has_sign 0 l) (λ t. simp t (mul-zero (w l))) (λ t. simp t)
-
   pub free-passes : (p : Licence → Bool) → l.call_sign ≡ 0 → passes_at p l ≡ false
   unfolding passes_at
   free-passes p e = simp (sign-is 0 l e)
-
-  pub held-passes : (p : Licence → Bool) → (l.call_sign ≡ 0 → ⊥) → passes_at p l ≡ p l
-  unfolding passes_at
-  held-passes p n = simp (sign-not 0 l n)
 
 -- ---- a sum over the licences in force, place by place
 
@@ -64,12 +51,12 @@ pub count-starts : {most : ℕ} {f : Licence → ℕ} {ps : List FlatLicence} �
 count-starts {most} {f} {ps} = record { inside = omega arith; small = omega arith; is = refl }
 
 module _ {most : ℕ} {f : Licence → ℕ} {ps : List FlatLicence} {i sum : ℕ} (w : Counted most f ps i sum) where
-  pub count-turns : {n : ℕ} → i < length ps → n ≡ at_place f (licence_of (get_or ps i free_place)) → n ≤ most
-      → Counted most f ps (i + 1) (sum + n)
-  count-turns {n} b e s = record {
+  pub count-turns : {n next : ℕ} → next ≡ sum + n → i < length ps → n ≡ at_place f (licence_of (get_or ps i free_place)) → n ≤ most
+      → Counted most f ps (i + 1) next
+  count-turns {n} a b e s = record {
     inside = omega arith;
     small = omega (arith, w.small, mul-add most i 1, mul-one most);
-    is = (λ j. w.is j + e j)
+    is = a ∙ (λ j. w.is j + e j)
         ∙ sym (total-next (λ p. at_place f (licence_of p)) ps i free_place b)
         ∙ ap (λ (k : ℕ). total (λ p. at_place f (licence_of p)) (take k ps)) (sym (add-one i));
   }
@@ -84,25 +71,67 @@ named number l = flag (names number l)
 abbrev pub named_width : ℕ → Licence → ℕ
 named_width number l = l.width * named number l
 
+-- what a place adds to the two sums, by whether it is counted
+module _ (number : ℕ) (p : FlatLicence) where
+  ground-named : (g : Ground) → option_eq eqb (ground_area g) (Some number) ≡ is_area number g
+  ground-named (Area n) = refl
+  ground-named (Box b) = refl
+
+  pub counted-adds : names_at number p ≡ true →
+      (1 ≡ at_place (named number) (licence_of p)) × ((licence_of p).width ≡ at_place (named_width number) (licence_of p))
+  unfolding standing at_place
+  counted-adds =
+      by-test (has_sign 0 (licence_of p))
+      (λ t e. not-both (simp t at e) refl)
+      (λ t e.
+      let n = sym (ground-named (licence_of p).ground) ∙ (simp t at e) in
+      (simp (t, n), simp (t, n, mul-one)))
+
+  pub passed-adds : names_at number p ≡ false →
+      (0 ≡ at_place (named number) (licence_of p)) × (0 ≡ at_place (named_width number) (licence_of p))
+  unfolding standing at_place
+  passed-adds =
+      by-test (has_sign 0 (licence_of p))
+      (λ t h. (simp t, simp t))
+      (λ t h.
+      let n = sym (ground-named (licence_of p).ground) ∙ (simp t at h) in
+      (simp (t, n), simp (t, n, mul-zero)))
+
+-- ---- the box at a place
+
+module _ (p : FlatLicence) where
+  -- the place has a box just where one is in force there
+  pub box-passes : passes_at has_box (licence_of p) ≡ is_some (box_at p)
+  unfolding passes_at standing
+  box-passes = by-test (has_sign 0 (licence_of p)) (λ t. simp t) (λ t. simp t (go (licence_of p).ground))
+    where
+      go : (g : Ground) → is_box (λ _. true) g ≡ is_some (ground_box g)
+      go (Area n) = refl
+      go (Box b) = refl
+
+  -- and it is the one that is handed out
+  pub box-given : unwrap_or (box_at p) no_box ≡ place_box (licence_of p)
+  unfolding place_box standing
+  box-given = by-test (has_sign 0 (licence_of p)) (λ t. simp t) (λ t. simp t (go (licence_of p).ground))
+    where
+      go : (g : Ground) → unwrap_or (ground_box g) no_box ≡ box_of g
+      go (Area n) = refl
+      go (Box b) = refl
+
 -- ---- the last place with a box in force
 
-module _ (ps : List FlatLicence) where
-  -- no place from n on has a box in force
-  abbrev pub NonePast : ℕ → Type 0
-  NonePast n = (i : ℕ) → n ≤ i → passes_at has_box (licence_of (get_or ps i free_place)) ≡ false
-
-  pub last-starts : {n : ℕ} → length ps ≡ n → NonePast n
-  last-starts {n} e i b =
-      ap (λ p. passes_at has_box (licence_of p)) (get_or-eq_default ps free_place (omega arith))
-      ∙ free-passes (licence_of free_place) has_box refl
-
-  pub last-turns : {n : ℕ} → NonePast n → passes_at has_box (licence_of (get_or ps (n - 1) free_place)) ≡ false → NonePast (n - 1)
-  last-turns {n} past h i b =
-      by-test (leb n i)
-      (λ t. past i (leb-true n i t))
+-- the place after the last one that the search of the code finds
+pub last-box : (ps : List FlatLicence) (n : ℕ) → length ps ≡ 64 → n ≤ 64
+    → IsAfterLastMatch (λ (p : FlatLicence). is_some (box_at p)) ps n → LastBox ps n
+last-box ps n size few h = record {
+  few = few;
+  past = λ i b. by-test (leb (length ps) i)
       (λ t.
-      let e : i ≡ n - 1 = omega (arith, leb-false n i t) in
-      ap (λ (k : ℕ). passes_at has_box (licence_of (get_or ps k free_place))) e ∙ h)
+      ap (λ p. passes_at has_box (licence_of p)) (get_or-eq_default ps free_place (leb-true (length ps) i t))
+      ∙ free-passes (licence_of free_place) has_box refl)
+      (λ t. box-passes (get_or ps i free_place) ∙ h.0 i free_place b (leb-false (length ps) i t));
+  last = λ b. box-passes (get_or ps (n - 1) free_place) ∙ h.1 b free_place;
+}
 
 -- ---- the edges, box by box
 

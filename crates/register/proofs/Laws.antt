@@ -8,6 +8,9 @@ use native.Mathlib.Nat.{not-suc-le-zero}
 use native.Mathlib.Numerals.{add-one}
 use lib.Dec.{leb, eqb}
 use lib.ListN.{length, get_or, set}
+use mathlib.Core.Logic.{◌≢◌}
+use Rattle.std.specs.Prelude.{Option, Some, None, MatchOption, ok_or}
+use Rattle.std.specs.List.{HoldsAt, AllWithin, list_any}
 use lib.Seq.{set-get_or}
 use borrow.Author.Tests.{eqb-true, eq-eqb, ne_eqb, le-leb, lt-leb, leb-true, leb-false}
 use Rattle.lists.proofs.Tests.{by-test, not-both, second-of}
@@ -18,7 +21,9 @@ use Rattle.register.specs.declared.Licence.{Licence}
 use Rattle.register.specs.declared.FlatLicence.{FlatLicence}
 use Rattle.register.specs.Licences.{ground_formed, width_formed, well_formed, full_width, ground_of, licence_of, flat_of, free_place}
 use Rattle.register.specs.Licences.{has_sign, in_force, held, release}
-use Rattle.register.specs.Rules.{grant_number, cancel_number, grant_answer, cancel_answer, limit, grant_rule, cancel_rule}
+use Rattle.register.specs.declared.GrantRefusal.TheVariants.{Full}
+use Rattle.register.specs.Rules.{limit, grant_rule, cancel_rule}
+use Rattle.register.specs.Promises.{PlaceFound}
 
 -- ---- the test for a call sign
 
@@ -66,6 +71,12 @@ stands_at s [] k b e = absurd (not-suc-le-zero b)
 stands_at s (p ∷ ps) zero b e = simp (sign-is s (licence_of p) e)
 stands_at s (p ∷ ps) (suc k) b e =
     by-test (has_sign s (licence_of p)) (λ t. simp t) (λ t. simp t (stands_at s ps k (omega arith) e))
+
+-- the search of the code says so
+pub stands-any : (s : ℕ) (ps : List FlatLicence) → list_any (λ (p : FlatLicence). eqb p.call_sign s) ps ≡ stands s ps
+unfolding has_sign
+stands-any s [] = refl
+stands-any s (p ∷ ps) = ap (λ b. eqb p.call_sign s || b) (stands-any s ps)
 
 -- a call sign that is not 0 is held in force where it stands at a place
 pub held-in-force : (s : ℕ) (ps : List FlatLicence) → (s ≡ 0 → ⊥) → held s (in_force ps) ≡ stands s ps
@@ -168,121 +179,21 @@ module _ (lines : List Licence) (s : ℕ) where
   accepted-held e =
       by-test (held s lines) (λ h. h) (λ h. absurd (let k = rule-not-held h in omega arith))
 
--- ---- the search of a grant, from the last place back
+-- ---- the place that a grant takes
 
--- at place i, whether a place from i on has the call sign
-pub record Seen (ps : List FlatLicence) (s i : ℕ) (found : Bool) : Type 0 where
-  pub some : found ≡ true → stands s ps ≡ true
-  pub none : found ≡ false → (k : ℕ) → i ≤ k → k < length ps → (get_or ps k free_place).call_sign ≡ s → ⊥
-
--- at place i, the first free place from i on, or one past the places where none is free
-pub record FirstFree (ps : List FlatLicence) (i free : ℕ) : Type 0 where
-  pub spot : free < length ps → (get_or ps free free_place).call_sign ≡ 0
-  pub none : length ps ≤ free → (k : ℕ) → i ≤ k → k < length ps → (get_or ps k free_place).call_sign ≡ 0 → ⊥
-
--- what holds of the place before i and of those after it holds from there on
-one-more-back : (ps : List FlatLicence) (x i : ℕ) → ((get_or ps (i - 1) free_place).call_sign ≡ x → ⊥)
-    → ((k : ℕ) → i ≤ k → k < length ps → (get_or ps k free_place).call_sign ≡ x → ⊥)
-    → (k : ℕ) → i - 1 ≤ k → k < length ps → (get_or ps k free_place).call_sign ≡ x → ⊥
-one-more-back ps x i here later k a b e =
-    by-test (leb i k)
-    (λ t. later k (leb-true i k t) b e)
-    (λ t.
-    let same : k ≡ i - 1 = omega (arith, leb-false i k t) in
-    here (ap (λ (j : ℕ). (get_or ps j free_place).call_sign) (sym same) ∙ e))
-
-module _ {ps : List FlatLicence} {s i : ℕ} {found : Bool} where
-  pub seen-starts : length ps ≤ i → found ≡ false → Seen ps s i found
-  seen-starts h f = record { some = λ t. not-both t f; none = λ _ k a b. absurd (omega arith) }
-
-  pub seen-before : {next : Bool} → Seen ps s i found → ((get_or ps (i - 1) free_place).call_sign ≡ s → ⊥) → next ≡ found
-      → Seen ps s (i - 1) next
-  seen-before w e t =
-      record { some = λ f. w.some (sym t ∙ f); none = λ f. one-more-back ps s i e (w.none (sym t ∙ f)) }
-
-  pub seen_all : Seen ps s i found → i ≤ 0 → stands s ps ≡ found
-  seen_all w h =
-      by-test found
-      (λ t. w.some t ∙ sym t)
-      (λ t. stands-none s ps (λ k b. w.none t k (omega arith) b) ∙ sym t)
-
-pub seen_here : {ps : List FlatLicence} {s i : ℕ} {next : Bool} → 0 < i → i ≤ length ps
-    → (get_or ps (i - 1) free_place).call_sign ≡ s → next ≡ true → Seen ps s (i - 1) next
-seen_here {ps} {s} {i} h b e t = record { some = λ _. stands_at s ps (i - 1) (omega arith) e; none = λ f. not-both t f }
-
-module _ {ps : List FlatLicence} {i free : ℕ} where
-  pub free-starts : length ps ≤ i → length ps ≤ free → FirstFree ps i free
-  free-starts h n = record { spot = λ b. absurd (omega arith); none = λ _ k a b. absurd (omega arith) }
-
-  pub free-before : {next : ℕ} → FirstFree ps i free → ((get_or ps (i - 1) free_place).call_sign ≡ 0 → ⊥) → next ≡ free
-      → FirstFree ps (i - 1) next
-  free-before w e n = record {
-    spot = λ b. ap (λ (j : ℕ). (get_or ps j free_place).call_sign) n ∙ w.spot (omega arith);
-    none = λ b. one-more-back ps 0 i e (w.none (omega arith));
-  }
-
-  -- no place is free where as many licences are in force as there are places
-  pub free_all : FirstFree ps i free → i ≤ 0 → length ps ≡ limit → leb limit free ≡ leb limit (length (in_force ps))
-  free_all w h n =
-      by-test (leb limit free)
-      (λ t.
-      let b = leb-true limit free t in
-      let e = none_free ps (λ k d. w.none (omega arith) k (omega arith) d) in
-      t ∙ sym (le-leb limit (length (in_force ps)) (omega arith)))
-      (λ t.
-      let b : free < length ps = omega (arith, leb-false limit free t) in
-      let e = some-free ps free b (w.spot b) in
-      t ∙ sym (lt-leb limit (length (in_force ps)) (omega arith)))
-
-pub free-here : {ps : List FlatLicence} {i next : ℕ} → 0 < i → i ≤ length ps → (get_or ps (i - 1) free_place).call_sign ≡ 0
-    → next ≡ i - 1 → FirstFree ps (i - 1) next
-free-here {ps} h b e n =
-    record { spot = λ _. ap (λ (j : ℕ). (get_or ps j free_place).call_sign) n ∙ e; none = λ a. absurd (omega arith) }
-
--- the refusal by the three tests of a search
-abbrev pub refusal_by : (formed found full : Bool) → ℕ
-refusal_by formed found full = cond (not formed) 6 (cond found 9 (cond full 10 0))
-
--- it is the rule's
-pub refusal_is : (ps : List FlatLicence) (l : Licence) (found full : Bool) → stands l.call_sign ps ≡ found
-    → full ≡ leb limit (length (in_force ps)) → refusal_by (well_formed l) found full ≡ grant_rule (in_force ps) l
-unfolding grant_rule
-refusal_is ps l found full e f =
-    by-test (well_formed l)
-    (λ w.
-    let h : found ≡ held l.call_sign (in_force ps) = sym e ∙ sym (held-in-force l.call_sign ps (formed-sign l w)) in
-    λ i. refusal_by (well_formed l) (h i) (f i))
-    (λ w. simp (w, w))
-
--- an accepted grant has a free place
-pub accepted-free : (formed found full : Bool) → refusal_by formed found full ≡ 0 → full ≡ false
-accepted-free true false true e = absurd (omega arith)
-accepted-free true false false e = refl
-accepted-free true true full e = absurd (omega arith)
-accepted-free false found full e = absurd (omega arith)
-
--- ---- the answers by their numbers
-
--- the rule's number is that of an answer
-pub grant-number : (lines : List Licence) (l : Licence) → grant_number (grant_answer (grant_rule lines l)) ≡ grant_rule lines l
-unfolding grant_rule
-grant-number lines l = go (well_formed l) (held l.call_sign lines) (leb limit (length lines))
-  where
-    go : (formed taken full : Bool) →
-        (let n : ℕ = cond (not formed) 6 (cond taken 9 (cond full 10 0)) in
-        grant_number (grant_answer n) ≡ n)
-    go true true full = refl
-    go true false true = refl
-    go true false false = refl
-    go false taken full = refl
-
-pub cancel-number : (lines : List Licence) (s : ℕ) → cancel_number (cancel_answer (cancel_rule lines s)) ≡ cancel_rule lines s
-unfolding cancel_rule
-cancel-number lines s = go (held s lines)
-  where
-    go : (found : Bool) → (let n : ℕ = cond (not found) 11 0 in cancel_number (cancel_answer n) ≡ n)
-    go true = refl
-    go false = refl
+-- the first free place, where the licence is well formed and its call sign is new
+pub place-found : (ps : List FlatLicence) (l : Licence) → length ps ≡ limit → well_formed l ≡ true → held l.call_sign (in_force ps) ≡ false
+    → (r : Option ℕ)
+    → MatchOption r (AllWithin (λ (p : FlatLicence). p.call_sign ≢ 0) ps 0 (length ps))
+    (λ i. (i < length ps) × HoldsAt (λ (p : FlatLicence). p.call_sign ≡ 0) ps i
+    × AllWithin (λ (p : FlatLicence). p.call_sign ≢ 0) ps 0 i)
+    → PlaceFound ps l (ok_or r Full)
+place-found ps l size w h None none =
+    let n = none_free ps (λ k b e. none k free_place (omega arith) b e) in
+    rule-full (in_force ps) l w h (omega arith)
+place-found ps l size w h (Some i) found =
+    let n = some-free ps i found.0 (found.1 free_place) in
+    (rule-accepted (in_force ps) l w h (omega arith), found.0, found.1 free_place)
 
 -- ---- a release, place by place
 

@@ -1,6 +1,7 @@
 -- Document 01, "Coverage and blocks": what a sum over an area's cells reads of the licences in force: how many have the area as their
 -- ground, and the boxes of the others; document 02, Paper 4: the widths of both. Assumes nothing.
-use Rattle.std.specs.Prelude.{ℕ, ◌+◌, ◌*◌, ◌-◌, ◌/◌, ◌≤◌, ◌<◌, ◌≡◌, Bool, true, false, cond, List, eqb, ℤ, pos, length, get_or}
+use Rattle.std.specs.Prelude.{ℕ, ◌+◌, ◌*◌, ◌-◌, ◌/◌, ◌≤◌, ◌<◌, ◌≡◌, Bool, true, false, cond, List, eqb, ℤ, pos, length, get_or, Option, Some, None}
+use Rattle.std.specs.Option.{option_and_then, option_eq}
 use Rattle.register.specs.declared.GeoBox.{GeoBox}
 use Rattle.register.specs.declared.Ground.{Ground}
 use Rattle.register.specs.declared.Ground.TheVariants.{Area, Box}
@@ -8,8 +9,8 @@ use Rattle.register.specs.declared.Licence.{Licence}
 use Rattle.register.specs.declared.FlatLicence.{FlatLicence}
 use Rattle.lists.specs.Sums.{total, flag}
 use Rattle.register.specs.declared.Naming.{Naming}
-use Rattle.register.specs.declared.Boxes.{Boxes}
-use Rattle.register.specs.Licences.{licence_of, free_place, has_sign, in_force}
+use Rattle.boxes.specs.declared.Boxes.{Boxes}
+use Rattle.register.specs.Licences.{licence_of, free_place, has_sign, standing, in_force}
 use Rattle.register.specs.Sums.{passes_at}
 
 -- "A PEA ground covers every cell of that area": the ground is the area of a number
@@ -48,6 +49,26 @@ box_of (Box b) = b
 -- the box of what stands at a place, one that covers nothing where no box is in force
 unfoldable pub place_box : Licence → GeoBox
 place_box l = cond (has_sign 0 l) no_box (box_of l.ground)
+
+-- the area of the licence in force that stands at a place, none where its ground is no area
+abbrev pub ground_area : Ground → Option ℕ
+ground_area (Area n) = Some n
+ground_area (Box b) = None
+
+abbrev pub area_at : FlatLicence → Option ℕ
+area_at p = option_and_then (λ l. ground_area l.ground) (standing p)
+
+-- a licence in force with the area of a number as its ground stands at a place
+abbrev pub names_at : ℕ → FlatLicence → Bool
+names_at number p = option_eq eqb (area_at p) (Some number)
+
+-- the box of the licence in force that stands at a place, none where its ground is no box
+abbrev pub ground_box : Ground → Option GeoBox
+ground_box (Area n) = None
+ground_box (Box b) = Some b
+
+abbrev pub box_at : FlatLicence → Option GeoBox
+box_at p = option_and_then (λ l. ground_box l.ground) (standing p)
 
 -- box i of n: the edges are the n souths, then the n norths, the n wests and the n easts
 abbrev pub box_from : List ℤ → (n i : ℕ) → GeoBox

@@ -1,5 +1,5 @@
 -- Document 01, "The register": well-formed licences, and the licences in force; document 02, Paper 4: their widths. Assumes nothing.
-use Rattle.std.specs.Prelude.{ℕ, ◌-◌, Bool, cond, not, ◌&&◌, List, [], ◌∷◌, leb, eqb, pos}
+use Rattle.std.specs.Prelude.{ℕ, ◌-◌, Bool, cond, not, ◌&&◌, List, [], ◌∷◌, leb, eqb, pos, Option, Some, None}
 use Rattle.std.specs.Int.Signed.{lt_z}
 use Rattle.lists.specs.Sums.{any}
 use Rattle.units.specs.Coordinates.{is_latitude, is_longitude}
@@ -79,6 +79,10 @@ free_place = record { call_sign = 0; area = 0; kind = 0; narrower_by = 0; south 
 -- "The list of demand 3": the line has the call sign
 unfoldable pub has_sign : ℕ → Licence → Bool
 has_sign s l = eqb l.call_sign s
+
+-- "The register": the licence in force that stands at a place, none where its call sign is 0
+unfoldable pub standing : FlatLicence → Option Licence
+standing p = cond (has_sign 0 (licence_of p)) None (Some (licence_of p))
 
 -- "The register": the licences in force are the places whose call sign is not 0
 abbrev pub in_force : List FlatLicence → List Licence

@@ -1,10 +1,10 @@
 -- What each function of the register ensures, for any register at all. Assumes nothing.
-use Rattle.std.specs.Prelude.{ℕ, ◌<◌, ◌≡◌, List, length, get_or, set, replicate}
+use Rattle.std.specs.Prelude.{ℕ, ◌<◌, ◌≡◌, List, length, get_or, set, replicate, Result, Ok, Err}
 use Rattle.register.specs.declared.Licence.{Licence}
 use Rattle.register.specs.declared.FlatLicence.{FlatLicence}
 use Rattle.register.specs.declared.Register.{Register}
-use Rattle.register.specs.declared.Granted.{Granted}
-use Rattle.register.specs.declared.Cancelled.{Cancelled}
+use Rattle.register.specs.declared.GrantRefusal.{GrantRefusal}
+use Rattle.register.specs.declared.NotInForce.{NotInForce}
 use Rattle.register.specs.declared.Step.{Step}
 use Rattle.register.specs.Licences.{flat_of, free_place, in_force, release}
 use Rattle.register.specs.Rules.{grant_number, cancel_number, limit, grant_rule, cancel_rule}
@@ -32,9 +32,30 @@ pub record CancelStep (old : Register) (s : ℕ) (r : Step) : Type 0 where
   pub refused : (r.refusal ≡ 0 → ⊥) → r.next ≡ old
   pub accepted : r.refusal ≡ 0 → r.next.places ≡ release s old.places
 
--- the same where the answer is an enum, by its number
-abbrev pub GrantDone : Register → Licence → Granted → Type 0
-GrantDone old l r = GrantStep old l (record { next = r.next; refusal = grant_number r.answer })
+-- the register that the caller goes on with after a grant or a cancellation, and the number of its refusal, 0 for none
+abbrev pub next_of : {E : Type 0} → Register → Result Register E → Register
+next_of old (Ok next) = next
+next_of old (Err e) = old
 
-abbrev pub CancelDone : Register → ℕ → Cancelled → Type 0
-CancelDone old s r = CancelStep old s (record { next = r.next; refusal = cancel_number r.answer })
+abbrev pub refusal_of : {E : Type 0} → (E → ℕ) → Result Register E → ℕ
+refusal_of number (Ok next) = 0
+refusal_of number (Err e) = number e
+
+abbrev pub granted_step : Register → Result Register GrantRefusal → Step
+granted_step old r = record { next = next_of old r; refusal = refusal_of grant_number r }
+
+abbrev pub cancelled_step : Register → Result Register NotInForce → Step
+cancelled_step old r = record { next = next_of old r; refusal = refusal_of cancel_number r }
+
+-- the same where the answer is a result: a refused call leaves the caller with its register
+abbrev pub GrantDone : Register → Licence → Result Register GrantRefusal → Type 0
+GrantDone old l r = GrantStep old l (granted_step old r)
+
+abbrev pub CancelDone : Register → ℕ → Result Register NotInForce → Type 0
+CancelDone old s r = CancelStep old s (cancelled_step old r)
+
+-- a place for the licence that is free where the rule accepts it, else the rule's refusal
+abbrev pub PlaceFound : List FlatLicence → Licence → Result ℕ GrantRefusal → Type 0
+PlaceFound places l (Ok place) =
+    (grant_rule (in_force places) l ≡ 0) × (place < length places) × ((get_or places place free_place).call_sign ≡ 0)
+PlaceFound places l (Err e) = grant_rule (in_force places) l ≡ grant_number e

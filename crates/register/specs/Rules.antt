@@ -1,30 +1,20 @@
 -- Document 01, "The list of demand 3": what a grant and a cancellation answer, by the licences in force alone. Assumes nothing.
-use Rattle.std.specs.Prelude.{ℕ, cond, not, List, leb, eqb, length}
+use Rattle.std.specs.Prelude.{ℕ, cond, not, List, leb, length}
 use Rattle.register.specs.declared.Licence.{Licence}
-use Rattle.register.specs.declared.GrantAnswer.{GrantAnswer}
-use Rattle.register.specs.declared.GrantAnswer.TheVariants as Grant
-use Rattle.register.specs.declared.CancelAnswer.{CancelAnswer}
-use Rattle.register.specs.declared.CancelAnswer.TheVariants as Cancel
+use Rattle.register.specs.declared.GrantRefusal.{GrantRefusal}
+use Rattle.register.specs.declared.GrantRefusal.TheVariants.{IllFormed, InForce, Full}
+use Rattle.register.specs.declared.NotInForce.{NotInForce}
 use Rattle.register.specs.Licences.{well_formed, held}
 
--- "Refused by the input" and "Refused by the state": the number of each answer of a grant, 0 where it is accepted
-abbrev pub grant_number : GrantAnswer → ℕ
-grant_number Grant.Accepted = 0
-grant_number Grant.IllFormed = 6
-grant_number Grant.InForce = 9
-grant_number Grant.Full = 10
+-- "Refused by the input" and "Refused by the state": the number of each refusal of a grant
+abbrev pub grant_number : GrantRefusal → ℕ
+grant_number IllFormed = 6
+grant_number InForce = 9
+grant_number Full = 10
 
--- "Refused by the state": the number of each answer of a cancellation, 0 where it is accepted
-abbrev pub cancel_number : CancelAnswer → ℕ
-cancel_number Cancel.Accepted = 0
-cancel_number Cancel.NotInForce = 11
-
--- the answers by their numbers
-abbrev pub grant_answer : ℕ → GrantAnswer
-grant_answer n = cond (eqb n 0) Grant.Accepted (cond (eqb n 6) Grant.IllFormed (cond (eqb n 9) Grant.InForce Grant.Full))
-
-abbrev pub cancel_answer : ℕ → CancelAnswer
-cancel_answer n = cond (eqb n 0) Cancel.Accepted Cancel.NotInForce
+-- "Refused by the state": the number of the refusal of a cancellation
+abbrev pub cancel_number : NotInForce → ℕ
+cancel_number _ = 11
 
 -- "The register": its limit
 abbrev pub limit : ℕ

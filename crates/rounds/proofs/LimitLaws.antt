@@ -1,46 +1,37 @@
 -- Laws of the limits, of the loops that test and count, and of V within the limits. Assumes nothing.
-use Prim.Native.Nat.{ℕ, ◌+◌, ◌*◌, ◌≤◌, ◌<◌}
-use mathlib.Core.Path.{◌≡◌, refl, sym, ◌∙◌}
-use mathlib.Core.Bool.{Bool, true, false, cond, not, ◌&&◌}
+use Prim.Native.Nat.{ℕ, zero, suc, ◌+◌, ◌*◌, ◌≤◌, ◌<◌}
+use mathlib.Core.Path.{◌≡◌, refl, sym, ap, ◌∙◌}
+use mathlib.Core.Bool.{Bool, true, false, not, ◌&&◌, ◌||◌}
 use mathlib.Core.List.{List}
 use native.Mathlib.Omega.{arith}
 use native.Mathlib.Nat.{mul-le-mul}
 use native.Mathlib.Numerals.{add-one}
-use lib.Dec.{leb, ltb, eqb}
-use lib.ListN.{length, get_or}
-use borrow.Author.Tests.{leb-true, ltb-true, ltb-false, lt-ltb, le-ltb, not-true}
+use lib.Dec.{leb, ltb}
+use lib.ListN.{length, get_or, take}
+use Rattle.std.specs.List.{list_any}
+use Rattle.std.proofs.lemmas.List.Folds.{list_any_more}
+use borrow.Author.Tests.{leb-true, ltb-true, ltb-false, not-true, eq-eqb, ne_eqb}
 use Rattle.units.specs.Sums.{capped}
 use Rattle.units.proofs.Laws.{exact}
 use Rattle.lists.specs.Sums.{some_below, sum_below}
 use Rattle.lists.proofs.Tests.{first_of, second-of}
-use Rattle.lists.proofs.BelowLaws.{none_below, some_below-at, sum-most}
+use Rattle.lists.proofs.BelowLaws.{none_below, sum-most}
 use Rattle.ring.specs.Ring.{Places, shown, fits}
-use Rattle.ring.proofs.RingLaws.{Sizes, fits_in}
+use Rattle.ring.proofs.RingLaws.{fits_in}
 use Rattle.rounds.specs.Footprint.{value}
 use Rattle.rounds.specs.Promises.{area_of, in_limits}
-use Rattle.rounds.specs.Code.{sizes_fit, some_above, Within, Countable, people_with}
+use Rattle.rounds.specs.Code.{sizes_fit, some_above, Limited, Within, Countable, people_with}
 
--- ---- a loop that looks for a number above a limit
+-- ---- numbers above a limit
 
-pub record Passed (limit : ℕ) (l : List ℕ) (n i : ℕ) : Type 0 where
-  pub low : i ≤ n
-  pub none : some_above limit l i ≡ false
-
-pub passed-starts : (limit : ℕ) (l : List ℕ) (n : ℕ) → Passed limit l n 0
+-- a search through the first n numbers
+pub any_above : (limit : ℕ) (l : List ℕ) (n : ℕ) → n ≤ length l → list_any (λ (x : ℕ). ltb limit x) (take n l) ≡ some_above limit l n
 unfolding some_above some_below
-passed-starts limit l n = record { low = omega arith; none = refl }
-
-module _ {limit : ℕ} {l : List ℕ} {n i : ℕ} (c : Passed limit l n i) where
-  pub passed-turns : i < n → get_or l i 0 ≤ limit → Passed limit l n (i + 1)
-  unfolding some_above some_below
-  passed-turns h k = record { low = omega arith; none = rw (add-one i, c.none, le-ltb limit (get_or l i 0) k) }
-
-  pub passed-found : i < n → limit < get_or l i 0 → true ≡ some_above limit l n
-  unfolding some_above
-  passed-found h k = sym (some_below-at (λ (j : ℕ). ltb limit (get_or l j 0)) n i h (lt-ltb limit (get_or l i 0) k))
-
-  pub passed-ends : n ≤ i → false ≡ some_above limit l n
-  passed-ends h = let e : i ≡ n = omega (arith, c.low) in rw (← e) (sym c.none)
+any_above limit l zero h = refl
+any_above limit l (suc n) h =
+    let p : ℕ → Bool = λ x. ltb limit x in
+    ap (λ (k : ℕ). list_any p (take k l)) (sym (add-one n)) ∙ list_any_more p l n 0 (omega arith)
+    ∙ ap (λ (t : Bool). t || p (get_or l n 0)) (any_above limit l n (omega arith))
 
 -- ---- a loop that counts people
 
@@ -53,25 +44,30 @@ pub counted-starts : (mask people : List ℕ) (n byte : ℕ) → Counted mask pe
 unfolding people_with sum_below
 counted-starts mask people n byte = record { low = omega arith; most = omega arith; is = refl }
 
-module _ {mask people : List ℕ} {n byte sum i : ℕ} (c : Counted mask people n byte sum i) (k : Countable mask people n) (h : i < n)
-    {p : ℕ} (e : p ≡ cond (eqb (get_or mask i 0) byte) (get_or people i 0) 0) where
+module _ {mask people : List ℕ} {n byte sum i : ℕ} (c : Counted mask people n byte sum i) (k : Countable mask people n) (h : i < n) where
   -- a place adds at most the map's limit
-  pub adds-few : p ≤ 1_000_000
-  adds-few = rw e (at (eqb (get_or mask i 0) byte) (k.few i h))
-    where
-      at : (b : Bool) → get_or people i 0 ≤ 1_000_000 → cond b (get_or people i 0) 0 ≤ 1_000_000
-      at true l = l
-      at false l = omega arith
+  pub adds-few : {p : ℕ} → p ≡ get_or people i 0 → p ≤ 1_000_000
+  adds-few e = omega (arith, k.few i h)
 
-  pub counted-turns : Counted mask people n byte (sum + p) (i + 1)
+  pub counted-adds : {b p : ℕ} → b ≡ get_or mask i 0 → b ≡ byte → p ≡ get_or people i 0 → Counted mask people n byte (sum + p) (i + 1)
   unfolding people_with sum_below
-  counted-turns =
-      let few = adds-few in
+  counted-adds d t e =
+      let few = adds-few e in
       let most = c.most in
       record {
         low = omega arith;
         most = omega arith;
-        is = rw (add-one i) (λ j. c.is j + e j);
+        is = rw (add-one i, eq-eqb (get_or mask i 0) byte (sym d ∙ t)) (λ j. c.is j + e j);
+      }
+
+  pub counted-skips : {b : ℕ} → b ≡ get_or mask i 0 → (b ≡ byte → ⊥) → Counted mask people n byte sum (i + 1)
+  unfolding people_with sum_below
+  counted-skips d t =
+      let most = c.most in
+      record {
+        low = omega arith;
+        most = omega arith;
+        is = rw (add-one i, ne_eqb (get_or mask i 0) byte (λ e. t (d ∙ e))) (omega (arith, c.is));
       }
 
 pub counted-ends : {mask people : List ℕ} {n byte sum i : ℕ} → Counted mask people n byte sum i → n ≤ i
@@ -147,35 +143,33 @@ module _ (rows columns weight share : ℕ) (mask cells people : List ℕ) where
       let two = first_of (s && leb 1 weight) (leb weight 65535) three in
       let sizes = sizes-in rows columns mask cells people (first_of s (leb 1 weight) two) in
       record {
+        limits = record {
+          celled = sizes.celled;
+          counted = sizes.counted;
+          numbered = sizes.numbered;
+          heavy = leb-true 1 weight (second-of s (leb 1 weight) two);
+          light = leb-true weight 65535 (second-of (s && leb 1 weight) (leb weight 65535) three);
+          few = none_above 1_000_000 people n
+              (not-true (some_above 1_000_000 people n) (second-of (s && leb 1 weight && leb weight 65535 && m) p five));
+          above = ltb-true 0 share (second-of (s && leb 1 weight && leb weight 65535 && m && p) (ltb 0 share) six);
+          below = ltb-true share (value (area_of rows columns weight cells people) (shown cells))
+              (second-of (s && leb 1 weight && leb weight 65535 && m && p && ltb 0 share) v seven);
+        };
         masked = sizes.masked;
-        celled = sizes.celled;
-        counted = sizes.counted;
-        numbered = sizes.numbered;
-        heavy = leb-true 1 weight (second-of s (leb 1 weight) two);
-        light = leb-true weight 65535 (second-of (s && leb 1 weight) (leb weight 65535) three);
         plain = none_above 1 mask n (not-true (some_above 1 mask n) (second-of (s && leb 1 weight && leb weight 65535) m four));
-        few = none_above 1_000_000 people n
-            (not-true (some_above 1_000_000 people n) (second-of (s && leb 1 weight && leb weight 65535 && m) p five));
-        above = ltb-true 0 share (second-of (s && leb 1 weight && leb weight 65535 && m && p) (ltb 0 share) six);
-        below = ltb-true share (value (area_of rows columns weight cells people) (shown cells))
-            (second-of (s && leb 1 weight && leb weight 65535 && m && p && ltb 0 share) v seven);
       }
 
 -- ---- what is known within the limits
 
-module _ {rows columns weight share : ℕ} {mask cells people : List ℕ} (w : Within rows columns weight share mask cells people) where
-  pub mask-sizes : Sizes rows columns (length mask)
-  mask-sizes = fits_in rows columns (length mask) w.masked
-
-  pub mask-countable : Countable mask people (rows * columns)
-  mask-countable = record { long = mask-sizes.long; counted = w.counted; numbered = w.numbered; few = w.few }
-
+module _ {rows columns weight share : ℕ} {cells people : List ℕ} (l : Limited rows columns weight share cells people) where
   pub people-most : (f : Places) → sum_below (λ i. get_or people i 0) f (rows * columns) ≤ 65535 * 1_000_000
-  people-most f = set-most people f (rows * columns) w.few w.numbered
+  people-most f = set-most people f (rows * columns) l.few l.numbered
 
-  -- another mask of the same length
-  pub kept-fits : (now : List ℕ) → length now ≡ length mask → fits rows columns (length now) ≡ true
-  kept-fits now e = rw e w.masked
-
-  pub kept-countable : (now : List ℕ) → length now ≡ length mask → Countable now people (rows * columns)
-  kept-countable now e = record { long = rw e mask-sizes.long; counted = w.counted; numbered = w.numbered; few = w.few }
+  -- a mask with a byte for each place
+  pub countable : (mask : List ℕ) → fits rows columns (length mask) ≡ true → Countable mask people (rows * columns)
+  countable mask h = record {
+    long = (fits_in rows columns (length mask) h).long;
+    counted = l.counted;
+    numbered = l.numbered;
+    few = l.few;
+  }

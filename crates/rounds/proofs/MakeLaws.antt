@@ -4,7 +4,7 @@ use mathlib.Core.Path.{◌≡◌, refl, sym, ap, ◌∙◌}
 use mathlib.Core.Bool.{Bool, true, false, cond, not, ◌&&◌, ◌||◌, and-false}
 use mathlib.Core.List.{List, map}
 use native.Mathlib.Omega.{arith}
-use native.Mathlib.Nat.{mul_comm, suc-mul, le_trans, le-div_iff_mul-le}
+use native.Mathlib.Nat.{mul_comm, suc-mul, le-div_iff_mul-le}
 use lib.Dec.{ltb, eqb}
 use lib.ListN.{length, get_or}
 use borrow.Author.Tests.{ltb-true, ltb-false, lt-ltb, le-ltb}
@@ -17,18 +17,18 @@ use Rattle.subset.specs.Rule.{the_subset}
 use Rattle.subset.specs.Marked.{people_at, candidates, left_out, roomy, LeavesOut}
 use Rattle.subset.proofs.MarkedLaws.{candidate-low, taken-some}
 use Rattle.ring.specs.Ring.{Places, shown, settled, wiped}
-use Rattle.ring.proofs.RingLaws.{ring_in}
+use Rattle.ring.proofs.RingLaws.{fits_in, ring_in}
 use Rattle.rounds.specs.Footprint as area
 use Rattle.rounds.specs.Footprint.{PartArea, places, value, ring_of, growing, last_set, overshoots, last_ring, outer, slack, ring_cells}
 use Rattle.rounds.specs.Footprint.{remains, footprint, needed}
-use Rattle.rounds.specs.Promises.{area_of, Made}
+use Rattle.rounds.specs.Promises.{area_of, Answer, Made}
 use Rattle.rounds.specs.Code.{Within, last_byte, RoundsDone, rest_byte, Finished}
-use Rattle.rounds.specs.declared.Answer.{Answer}
-use Rattle.rounds.specs.declared.Answer.TheVariants.{Done, Short}
-use Rattle.rounds.specs.declared.Reached.{Reached}
+use Rattle.rounds.specs.declared.MakeRefusal.TheVariants.{TableShort}
+use Rattle.std.specs.Prelude.{Some, None, Ok, Err}
+use Rattle.units.specs.declared.People.{People}
 use Rattle.rounds.proofs.Rounds.{over}
 use Rattle.rounds.proofs.Theorems.{left-out-is}
-use Rattle.rounds.proofs.LimitLaws.{mask-sizes, people-most}
+use Rattle.rounds.proofs.LimitLaws.{people-most}
 
 -- ---- the end of the choice
 
@@ -47,7 +47,7 @@ left-out-below mask people n slack i h =
 module _ (people : List ℕ) (n slack : ℕ) (mask after table entries : List ℕ) where
   -- "8": the area's bytes are 0
   pub finish-short : length table < slack + 1 → ((i : ℕ) → get_or after i 0 ≡ wiped n i (get_or mask i 0)) → entries ≡ table
-      → Finished people n slack (Short (slack + 1)) mask after table entries
+      → Finished people n slack (Err (TableShort (slack + 1))) mask after table entries
   unfolding rest_byte
   finish-short h b e =
       let q = lt-ltb (length table) (slack + 1) h in
@@ -60,7 +60,7 @@ module _ (people : List ℕ) (n slack : ℕ) (mask after table entries : List �
   -- the cells that are left out are 0, and the other marks are settled
   pub finish-done : slack + 1 ≤ length table → ((i : ℕ) → i < n → get_or mask i 0 ≤ 2) → (mid : List ℕ)
       → LeavesOut people n slack mask mid table entries → roomy (length mask) (length people) n slack (length table) ≡ true
-      → ((i : ℕ) → get_or after i 0 ≡ settled 1 n i (get_or mid i 0)) → Finished people n slack Done mask after table entries
+      → ((i : ℕ) → get_or after i 0 ≡ settled 1 n i (get_or mid i 0)) → Finished people n slack (Ok tt) mask after table entries
   unfolding rest_byte
   finish-done h small mid c room s =
       let q = le-ltb (length table) (slack + 1) h in
@@ -92,15 +92,9 @@ slack-most unit people share pos =
     omega arith in
     by-test (ltb people q) (λ t. absurd (no (ltb-true people q t))) (λ t. ltb-false people q t)
 
-pub slack-by : (v unit people share most : ℕ) → v ≡ unit * people → 0 < unit → people ≤ most
-    → ((v - share) / unit ≡ (unit * people - share) / unit) × ((v - share) / unit ≤ most)
-slack-by v unit people share most e pos h = rw e (refl, le_trans (slack-most unit people share pos) h)
-
 -- ---- the footprint
 
-module _ {rows columns weight share : ℕ} {mask mid cells people : List ℕ} {r : Reached}
-    (w : Within rows columns weight share mask cells people)
-    (done : RoundsDone (area_of rows columns weight cells people) share r mask mid) where
+module _ {rows columns weight share : ℕ} {mask cells people : List ℕ} (w : Within rows columns weight share mask cells people) where
   abbrev a : PartArea
   a = area_of rows columns weight cells people
 
@@ -108,10 +102,10 @@ module _ {rows columns weight share : ℕ} {mask mid cells people : List ℕ} {r
   f = shown mask
 
   -- without a last ring the last set is the footprint
-  pub made-exact : r.last ≡ false → (table : List ℕ) → Made a share f Done mask mid table table
+  pub made-exact : {mid : List ℕ} → RoundsDone a share None mask mid → (table : List ℕ) → Made a share f (Ok tt) mask mid table table
   unfolding needed footprint last_byte
-  made-exact l table =
-      let o : overshoots a share f ≡ false = sym done.last ∙ l in
+  made-exact {mid} done table =
+      let o : overshoots a share f ≡ false = sym done.last in
       let q = le-ltb (length table) 0 zero-le in
       record {
         answer = rw (o, q);
@@ -119,9 +113,9 @@ module _ {rows columns weight share : ℕ} {mask mid cells people : List ℕ} {r
         unused = λ s h. refl;
       }
 
-  module _ (l : r.last ≡ true) where
+  module _ {mid : List ℕ} {last : People} (done : RoundsDone a share (Some last) mask mid) where
     overshot : overshoots a share f ≡ true
-    overshot = sym done.last ∙ l
+    overshot = sym done.last
 
     -- a byte of the area
     byte : (i : ℕ) → i < places a → get_or mid i 0 ≡ cond (last_ring a share f i) 2 (flag (last_set a share f i))
@@ -171,23 +165,23 @@ module _ {rows columns weight share : ℕ} {mask mid cells people : List ℕ} {r
         (λ i. eqb (get_or mid i 0) 2 && ltb 0 (people_at people i)) (λ i. last_ring a share f i && ltb 0 (people_at people i)) (places a)
         (λ i h k. marks-ring i h k && ltb 0 (people_at people i))
 
-    pub last-most : r.people.0 ≤ 65535 * 1_000_000
-    last-most = rw (done.people overshot) (people-most w (outer a share f))
+    pub last-most : last.0 ≤ 65535 * 1_000_000
+    last-most = rw (done.people overshot) (people-most w.limits (outer a share f))
 
-    pub last-over : share ≤ 100 * weight * r.people.0
+    pub last-over : share ≤ 100 * weight * last.0
     unfolding value
     last-over =
-        let h : share < value a (outer a share f) = over a share f w.above w.below (mask-sizes w).some overshot in
+        let h : share < value a (outer a share f) = over a share f w.limits.above w.limits.below (fits_in rows columns (length mask) w.masked).some overshot in
         rw (done.people overshot) (omega arith)
 
-    pub slack-is : (100 * weight * r.people.0 - share) / (100 * weight) ≡ slack a share f
+    pub slack-is : (100 * weight * last.0 - share) / (100 * weight) ≡ slack a share f
     unfolding slack value
     slack-is = rw (done.people overshot)
 
     -- what the table's rule leaves out is what the footprint leaves out
     out-is : left_out mid people (places a) (slack a share f) ≡ taken_of (ring_cells a share f) (area.left_out a share f)
     unfolding left_out
-    out-is = rw (cells_are, left-out-is a share f w.heavy (mask-sizes w).some w.above w.below overshot)
+    out-is = rw (cells_are, left-out-is a share f w.limits.heavy (fits_in rows columns (length mask) w.masked).some w.limits.above w.limits.below overshot)
 
     pub made-last : (answer : Answer) (after table entries : List ℕ)
         → Finished people (places a) (slack a share f) answer mid after table entries → Made a share f answer mask after table entries

@@ -16,8 +16,11 @@ use Rattle.ring.proofs.RingLaws.{ring_in, ring-below, ring-same, seen_plain}
 use Rattle.rounds.specs.Footprint.{PartArea, places, value, both, ring_of, step, in_share, goes_on, rounds, growing, last_set, overshoots}
 use Rattle.rounds.specs.Footprint.{last_ring, outer}
 use Rattle.rounds.specs.Promises.{area_of}
-use Rattle.rounds.specs.Code.{Within, reached_set, round_byte, RoundDone, last_byte, RoundsDone}
+use Rattle.rounds.specs.Code.{Within, reached_set, round_byte, made_of, last_of, people_in, RoundDone, last_byte, RoundsDone}
+use Rattle.std.specs.Prelude.{Some, None}
+use Rattle.units.specs.declared.People.{People}
 use Rattle.rounds.specs.declared.Reached.{Reached}
+use Rattle.rounds.specs.declared.Reached.TheVariants.{Next, LastRing, Share}
 use Rattle.rounds.proofs.Rounds.{remaining, remaining-most, falls}
 use Rattle.rounds.proofs.Theorems.{rest_sum}
 
@@ -50,7 +53,7 @@ pub marks-are : {rows columns weight share : ℕ} {mask cells people : List ℕ}
     && ring grow (shown cells) (seen grow mask) (rows * columns) columns i)) (get_or mask i 0))
     → (i : ℕ) → get_or now i 0 ≡ marked (ring_of (area_of rows columns weight cells people) grow (shown mask) i) (get_or mask i 0)
 marks-are {rows} {columns} {weight} {share} {mask} {cells} {people} w grow now e i =
-    e i ∙ rw (w.masked, w.celled, ring-seen grow mask (shown cells) rows columns i w.plain)
+    e i ∙ rw (w.masked, w.limits.celled, ring-seen grow mask (shown cells) rows columns i w.plain)
 
 -- ---- the sums of a round
 
@@ -122,7 +125,7 @@ weighed a grow mask now plain marks sum ring p q =
 
 -- ---- what a round ensures
 
-module _ (a : PartArea) (share : ℕ) (grow : Bool) (mask : List ℕ) (r : Reached) where
+module _ (a : PartArea) (share : ℕ) (grow : Bool) (mask : List ℕ) where
   abbrev set : Places
   set = shown mask
 
@@ -130,17 +133,11 @@ module _ (a : PartArea) (share : ℕ) (grow : Bool) (mask : List ℕ) (r : Reach
   ring_set = ring_of a grow (shown mask)
 
   -- equality ends it
-  pub round-equal : r.made ≡ false → r.last ≡ false → r.people.0 ≡ sum_below a.people set (places a) → value a set ≡ share
-      → RoundDone a share grow r mask mask
+  pub round-equal : value a set ≡ share → RoundDone a share grow Share mask mask
   unfolding goes_on reached_set round_byte
-  round-equal m l p v =
+  round-equal v =
       let q = eq-eqb (value a set) share v in
-      record {
-        made = rw (m, q);
-        last = rw (l, q);
-        people = rw (m, l) p;
-        bytes = λ i. rw (m, l) (at (ring_set i) (get_or mask i 0));
-      }
+      record { made = rw q; last = rw q; people = refl; bytes = λ i. at (ring_set i) (get_or mask i 0) }
     where
       at : (t : Bool) (x : ℕ) → x ≡ cond t x x
       at true x = refl
@@ -148,19 +145,19 @@ module _ (a : PartArea) (share : ℕ) (grow : Bool) (mask : List ℕ) (r : Reach
 
   module _ (now : List ℕ) (plain : (i : ℕ) → i < places a → get_or mask i 0 ≤ 1)
       (marks : (i : ℕ) → get_or now i 0 ≡ marked (ring_of a grow (shown mask) i) (get_or mask i 0))
-      (d : value a (shown mask) ≡ share → ⊥) where
+      (d : value a (shown mask) ≡ share → ⊥) (people : People) where
     -- the ring is the last ring
-    pub round-last : r.made ≡ false → r.last ≡ true → in_share grow (value a (step grow set ring_set)) share ≡ false
-        → r.people.0 ≡ cond grow (sum_below a.people (step grow set ring_set) (places a)) (sum_below a.people set (places a))
-        → RoundDone a share grow r mask now
+    pub round-last : in_share grow (value a (step grow set ring_set)) share ≡ false
+        → people.0 ≡ cond grow (sum_below a.people (step grow set ring_set) (places a)) (sum_below a.people set (places a))
+        → RoundDone a share grow (LastRing people) mask now
     unfolding goes_on reached_set round_byte
-    round-last m l k p =
+    round-last k p =
         let q = ne_eqb (value a set) share d in
         record {
-          made = rw (m, q, k);
-          last = rw (l, q, k);
-          people = rw (m, l) (p ∙ at grow);
-          bytes = λ i. rw (m, l) (marks i ∙ byte (ring_set i) (get_or mask i 0));
+          made = rw (q, k);
+          last = rw (q, k);
+          people = p ∙ at grow;
+          bytes = λ i. marks i ∙ byte (ring_set i) (get_or mask i 0);
         }
       where
         at : (g : Bool)
@@ -175,18 +172,18 @@ module _ (a : PartArea) (share : ℕ) (grow : Bool) (mask : List ℕ) (r : Reach
         byte false x = refl
 
     -- the round is made
-    pub round-made : (after : List ℕ) → r.made ≡ true → r.last ≡ false → in_share grow (value a (step grow set ring_set)) share ≡ true
-        → r.people.0 ≡ sum_below a.people (step grow set ring_set) (places a)
+    pub round-made : (after : List ℕ) → in_share grow (value a (step grow set ring_set)) share ≡ true
+        → people.0 ≡ sum_below a.people (step grow set ring_set) (places a)
         → ((i : ℕ) → get_or after i 0 ≡ settled (flag grow) (places a) i (get_or now i 0))
-        → RoundDone a share grow r mask after
+        → RoundDone a share grow (Next people) mask after
     unfolding goes_on reached_set round_byte
-    round-made after m l k p s =
+    round-made after k p s =
         let q = ne_eqb (value a set) share d in
         record {
-          made = rw (m, q, k);
-          last = rw (l, q, k);
-          people = rw m p;
-          bytes = λ i. rw m (s i ∙ settles a grow mask now plain marks i);
+          made = rw (q, k);
+          last = rw (q, k);
+          people = p;
+          bytes = λ i. s i ∙ settles a grow mask now plain marks i;
         }
 
 -- ---- all rounds
@@ -226,12 +223,12 @@ module _ (a : PartArea) (share : ℕ) (grow : Bool) where
     goal = refl;
   }
 
-  module _ (now after : List ℕ) (r : Reached) (done : RoundDone a share grow r now after) where
-    module _ (m : r.made ≡ true) where
+  module _ (now after : List ℕ) where
+    module _ (people : People) (done : RoundDone a share grow (Next people) now after) where
       -- a byte after a round that is made
       byte : (i : ℕ) → get_or after i 0 ≡ cond (ring_of a grow (shown now) i) (flag grow) (get_or now i 0)
       unfolding round_byte
-      byte i = done.bytes i ∙ rw m
+      byte i = done.bytes i
 
       shows : shown after ≡ step grow (shown now) (ring_of a grow (shown now))
       shows = fun_ext (λ i. ap (λ (x : ℕ). eqb x 1) (byte i) ∙ at grow (ring_of a grow (shown now)) i)
@@ -251,10 +248,10 @@ module _ (a : PartArea) (share : ℕ) (grow : Bool) where
       module _ (above : 0 < share) (below : share < value a a.cells) (wide : 0 < a.columns) where
         -- less is left
         pub going_less : remaining grow (shown after) (places a) < remaining grow (shown now) (places a)
-        going_less = rw shows (falls a share above below wide grow (shown now) (sym done.made ∙ m))
+        going_less = rw shows (falls a share above below wide grow (shown now) (sym done.made))
 
         pub going-turns : (before : List ℕ) (sum : ℕ) → Going before now sum → length after ≡ length now
-            → Going before after r.people.0
+            → Going before after people.0
         unfolding rounds reached_set
         going-turns before sum c l =
             let less = going_less in
@@ -266,15 +263,16 @@ module _ (a : PartArea) (share : ℕ) (grow : Bool) where
               plain = λ i h. rw (byte i) (next-plain (get_or now i 0) (ring_of a grow (shown now) i) (c.plain i h));
               rest = λ i h. byte i
                   ∙ rw (past-ring grow a.cells (shown now) (places a) a.columns i h) (c.rest i h);
-              people = done.people ∙ rw (m, shows);
+              people = done.people ∙ rw shows;
               left = k - 1;
               enough = omega arith;
               goal = c.goal ∙ ap (λ (j : ℕ). rounds a share grow j (shown now)) s
-                  ∙ rw (sym done.made ∙ m, shows);
+                  ∙ rw (sym done.made, shows);
             }
 
     -- no round is made: the mask shows the last set, with the last ring if there is one
-    module _ (before : List ℕ) (sum : ℕ) (c : Going before now sum) (g : grow ≡ growing a share (shown before)) (m : r.made ≡ false) where
+    module _ (r : Reached) (done : RoundDone a share grow r now after) (before : List ℕ) (sum : ℕ) (c : Going before now sum)
+        (g : grow ≡ growing a share (shown before)) (m : made_of r ≡ false) where
       stopped : goes_on a share grow (shown now) ≡ false
       stopped = sym done.made ∙ m
 
@@ -284,7 +282,7 @@ module _ (a : PartArea) (share : ℕ) (grow : Bool) where
           ap (λ (t : Bool). rounds a share t (places a) (shown before)) (sym g)
           ∙ c.goal ∙ stands a share grow c.left (shown now) stopped
 
-      over-is : overshoots a share (shown before) ≡ r.last
+      over-is : overshoots a share (shown before) ≡ last_of r
       unfolding overshoots
       over-is = rw last-is (sym (done.last ∙ rw stopped (and-true (not (eqb (value a (shown now)) share)))))
 
@@ -297,7 +295,7 @@ module _ (a : PartArea) (share : ℕ) (grow : Bool) where
       outer-is = λ k. cond (sym g k) (both (last-is k) (ring-is k)) (last-is k)
 
       last-people : overshoots a share (shown before) ≡ true
-          → r.people.0 ≡ sum_below a.people (outer a share (shown before)) (places a)
+          → people_in r (sum_below a.people (shown now) (places a)) ≡ sum_below a.people (outer a share (shown before)) (places a)
       unfolding reached_set
       last-people o = done.people ∙ rw (m, sym over-is ∙ o, outer-is)
 
@@ -305,7 +303,7 @@ module _ (a : PartArea) (share : ℕ) (grow : Bool) where
       unfolding round_byte last_byte
       last-bytes i = done.bytes i ∙ by-test (ltb i (places a))
           (λ t. rw (m, t, over-is, ring-is, last-is)
-          (at (ring_of a grow (shown now) i) r.last (bit (get_or now i 0) (c.plain i (ltb-true i (places a) t)))))
+          (at (ring_of a grow (shown now) i) (last_of r) (bit (get_or now i 0) (c.plain i (ltb-true i (places a) t)))))
           (λ t.
           let h = ltb-false i (places a) t in
           rw (t, past-ring grow a.cells (shown now) (places a) a.columns i h) (c.rest i h))
@@ -316,22 +314,24 @@ module _ (a : PartArea) (share : ℕ) (grow : Bool) where
           at false true e = e
           at false false e = e
 
-      pub going-ends : RoundsDone a share r before after
-      going-ends = record { last = sym over-is; people = last-people; bytes = last-bytes }
+    -- V equals the share, or the ring is the last ring
+    module _ (before : List ℕ) (sum : ℕ) (c : Going before now sum) (g : grow ≡ growing a share (shown before)) where
+      pub going-equal : RoundDone a share grow Share now after → RoundsDone a share None before after
+      going-equal d = record {
+        last = sym (over-is Share d before sum c g refl);
+        people = λ o. not-both o (over-is Share d before sum c g refl);
+        bytes = last-bytes Share d before sum c g refl;
+      }
+
+      pub going-last : (people : People) → RoundDone a share grow (LastRing people) now after → RoundsDone a share (Some people) before after
+      going-last people d = record {
+        last = sym (over-is (LastRing people) d before sum c g refl);
+        people = last-people (LastRing people) d before sum c g refl;
+        bytes = last-bytes (LastRing people) d before sum c g refl;
+      }
 
 -- the limits hold of the mask of every round
 pub going-within : {rows columns weight share : ℕ} {before now cells people : List ℕ} {grow : Bool} {sum : ℕ}
     → Within rows columns weight share before cells people → Going (area_of rows columns weight cells people) share grow before now sum
     → Within rows columns weight share now cells people
-going-within {rows} {columns} w c = record {
-  masked = rw c.kept w.masked;
-  celled = w.celled;
-  counted = w.counted;
-  numbered = w.numbered;
-  heavy = w.heavy;
-  light = w.light;
-  plain = c.plain;
-  few = w.few;
-  above = w.above;
-  below = w.below;
-}
+going-within {rows} {columns} w c = record { limits = w.limits; masked = rw c.kept w.masked; plain = c.plain }

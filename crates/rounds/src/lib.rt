@@ -1,317 +1,228 @@
 // Document 01, "The footprint": the footprint of a partial area, made in the mask that shows the set F. It serves the crate above.
 #![tactic(auto)]
 
-ghost use Rattle.std.specs.Prelude.{◌≡◌, true, false, cond, ℕ, ◌+◌, ◌-◌, ◌*◌, ◌/◌, ◌≤◌, ◌<◌, eqb, length, get_or};
+ghost use Rattle.std.specs.Prelude.{◌≡◌, true, cond, ℕ, ◌+◌, ◌-◌, ◌*◌, ◌/◌, ◌≤◌, ◌<◌, eqb, length, get_or};
 ghost use Rattle.lists.specs.Sums.{flag};
 ghost use Rattle.ring.specs.Ring.{shown, fits};
 ghost use Rattle.rounds.specs.Footprint.{in_share, growing};
-ghost use Rattle.rounds.specs.Promises.{area_of, in_limits, MakeDone};
-ghost use Rattle.rounds.specs.Code.{sizes_fit, some_above, Within, Countable, people_with, RoundDone, RoundsDone, Finished};
+ghost use Rattle.rounds.specs.Promises.{part_of, in_limits, MakeDone};
+ghost use Rattle.rounds.specs.Code.{sizes_fit, Limited, Within, Countable, people_with, RoundDone, RoundsDone, Finished};
 
-use units::{People, Weighted};
+use ring::Grid;
+use units::{Amount, People, Weighted};
 
-// What becomes of a footprint.
+// A partial area: what stands at each place of its grid, a byte that is 1 for a cell and a count of people, and the weight of its cells.
 #[derive(Clone, Copy)]
-pub enum Answer {
-    // It is made.
-    Done,
+pub struct Area<'a> {
+    pub cells: &'a [u8],
+    pub people: &'a [u32],
+    pub grid: Grid,
+    pub weight: u32,
+}
+
+// Why no footprint is made.
+#[derive(Clone, Copy, Debug, PartialEq, Eq)]
+pub enum MakeRefusal {
     // 8: the table is too short, and this is the count of entries needed.
-    Short(usize),
+    TableShort(usize),
     // The area or the share is outside the limits of a map and a proposal.
     Outside,
 }
 
-// What a round comes to: it is made, or its ring is the last ring, or neither where V equals the share. With it the people of the next set,
-// of the outer set, or of the set.
+// A course of rounds in an area within the limits, towards a share: the set grows, or it shrinks.
+// Kept as a test: document 01 compares V with the share, and its definitions take `grow` as the outcome.
 #[derive(Clone, Copy)]
-struct Reached {
-    made: bool,
-    last: bool,
-    people: People,
-}
-
-// The sizes of the grid are within the limits, and what is lent has an element for each place.
-fn sizes_fit(rows: usize, columns: usize, mask: usize, cells: usize, people: usize) -> bool
-    ensures { result ≡ sizes_fit rows columns mask cells people }
-{
-    if !ring::fits(rows, columns, mask) {
-        return false;
-    }
-    if !ring::fits(rows, columns, cells) {
-        return false;
-    }
-    let n = rows * columns;
-    if people < n {
-        return false;
-    }
-    n <= 65535
-}
-
-// Some byte of the area is neither 0 nor 1.
-fn some_mark(mask: &[u8], n: usize) -> bool
-    requires { n ≤ length mask.now }
-    ensures { result ≡ some_above 1 mask.now n }
-{
-    let mut i = 0;
-    while i < n {
-        if 1 < mask[i] {
-            return true;
-        }
-        i += 1;
-    }
-    false
-}
-
-// Some place has more people than the map's limit.
-fn some_crowd(people: &[u32], n: usize) -> bool
-    requires { n ≤ length people.now }
-    ensures { result ≡ some_above 1000000 people.now n }
-{
-    let mut i = 0;
-    while i < n {
-        if 1000000 < people[i] {
-            return true;
-        }
-        i += 1;
-    }
-    false
-}
-
-// The area, the mask and the share are within the limits.
-fn in_limits(
-    mask: &[u8],
-    cells: &[u8],
-    people: &[u32],
-    rows: usize,
-    columns: usize,
-    weight: u32,
+struct Course<'a> {
+    area: Area<'a>,
     share: Weighted,
-) -> bool
-    ensures { result ≡ in_limits (area_of rows columns weight cells.now people.now) share.0
-        mask.now cells.now people.now }
-{
-    if !sizes_fit(rows, columns, mask.len(), cells.len(), people.len()) {
-        return false;
-    }
-    if weight < 1 {
-        return false;
-    }
-    if 65535 < weight {
-        return false;
-    }
-    let n = rows * columns;
-    if some_mark(mask, n) {
-        return false;
-    }
-    if some_crowd(people, n) {
-        return false;
-    }
-    if share.0 < 1 {
-        return false;
-    }
-    let whole = value_of(sum_of(cells, people, n, 1), weight);
-    share.0 < whole.0
-}
-
-// The people of a place, counted if its byte is the one given.
-fn weigh(b: u8, byte: u8, people: u32) -> u64
-    ensures { result ≡ cond (eqb b byte) people 0 }
-{
-    if b == byte { people as u64 } else { 0 }
-}
-
-// The people of the places below n whose byte is the one given.
-fn sum_of(mask: &[u8], people: &[u32], n: usize, byte: u8) -> People
-    requires { Countable mask.now people.now n }
-    ensures { result.0 ≡ people_with mask.now people.now n byte }
-{
-    let mut sum: u64 = 0;
-    let mut i = 0;
-    while i < n {
-        sum += weigh(mask[i], byte, people[i]);
-        i += 1;
-    }
-    People(sum)
-}
-
-// "V of a set is 100 × weight × its people".
-fn value_of(people: People, weight: u32) -> Weighted
-    requires { (people.0 ≤ 65535 * 1000000) × (weight ≤ 65535) }
-    ensures { result.0 ≡ 100 * weight * people.0 }
-{
-    people.weighted(100, weight)
-}
-
-// "While V(F and B) ≤ share" growing, "While V(F without B) ≥ share" shrinking.
-fn in_share(grow: bool, v: Weighted, share: Weighted) -> bool
-    ensures { result ≡ in_share grow v.0 share.0 }
-{
-    if grow {
-        return v.at_most(share);
-    }
-    share.at_most(v)
-}
-
-// The people of the next set: "B joins F" growing, "B leaves F" shrinking.
-fn next_people(grow: bool, sum: People, ring: People) -> People
-    requires { (sum.0 ≤ 65535 * 1000000) × (ring.0 ≤ 65535 * 1000000) × (grow ≡ false → ring.0 ≤ sum.0) }
-    ensures { result.0 ≡ cond grow (sum.0 + ring.0) (sum.0 - ring.0) }
-{
-    if grow {
-        return People(sum.0 + ring.0);
-    }
-    People(sum.0 - ring.0)
-}
-
-// "the outer set is F and B when growing, F when shrinking".
-fn outer_people(grow: bool, sum: People, next: People) -> People
-    ensures { result.0 ≡ cond grow next.0 sum.0 }
-{
-    if grow {
-        return next;
-    }
-    sum
-}
-
-// The byte of a ring that joins the set, or leaves it.
-fn ring_byte(grow: bool) -> u8
-    ensures { result ≡ flag grow }
-{
-    if grow { 1 } else { 0 }
-}
-
-// One round. The people of the set are known; those of its ring are counted.
-fn round(
-    mask: &mut [u8],
-    cells: &[u8],
-    people: &[u32],
-    rows: usize,
-    columns: usize,
     grow: bool,
-    weight: u32,
-    share: Weighted,
-    sum: People,
-) -> Reached
-    requires within { Within rows columns weight share.0 mask.old cells.now people.now }
-    requires sum_value { sum.0 ≡ people_with mask.old people.now (rows * columns) 1 }
-    ensures { RoundDone (area_of rows columns weight cells.now people.now) share.0 grow result
-        mask.old mask.new }
-{
-    let v = value_of(sum, weight);
-    if v.0 == share.0 {
-        return Reached {
-            made: false,
-            last: false,
-            people: sum,
-        };
-    }
-    ring::form(mask, cells, rows, columns, grow);
-    let ring = sum_of(mask, people, rows * columns, 2);
-    let next = next_people(grow, sum, ring);
-    if !in_share(grow, value_of(next, weight), share) {
-        return Reached {
-            made: false,
-            last: true,
-            people: outer_people(grow, sum, next),
-        };
-    }
-    ring::settle(mask, rows, columns, ring_byte(grow));
-    Reached {
-        made: true,
-        last: false,
-        people: next,
-    }
+    ghost within: { Limited area.grid.rows area.grid.columns area.weight share.0 area.cells.now area.people.now },
 }
 
-// Rounds until one is not made. Each changes a place, so they end.
-fn all_rounds(
-    mask: &mut [u8],
-    cells: &[u8],
-    people: &[u32],
-    rows: usize,
-    columns: usize,
-    grow: bool,
-    weight: u32,
-    share: Weighted,
-    start: People,
-) -> Reached
-    requires within { Within rows columns weight share.0 mask.old cells.now people.now }
-    requires start_value { start.0 ≡ people_with mask.old people.now (rows * columns) 1 }
-    requires grow_value { grow ≡ growing (area_of rows columns weight cells.now people.now) share.0 (shown mask.old) }
-    ensures { RoundsDone (area_of rows columns weight cells.now people.now) share.0 result
-        mask.old mask.new }
-{
-    let mut sum = start;
-    loop {
-        let r = round(mask, cells, people, rows, columns, grow, weight, share, sum);
-        if !r.made {
-            return r;
-        }
-        sum = r.people;
-    }
-}
-
-// "The slack is (V(outer) - share) / (100 × weight), rounded down": so many people may be left out.
-fn slack_of(outer: People, weight: u32, share: Weighted) -> usize
-    requires { (outer.0 ≤ 65535 * 1000000) × (0 < weight) × (weight ≤ 65535) × (share.0 ≤ 100 * weight * outer.0) }
-    ensures { (result ≡ (100 * weight * outer.0 - share.0) / (100 * weight)) × (result ≤ 65535 * 1000000) }
-{
-    let v = value_of(outer, weight);
-    let unit = 100 * (weight as u64);
-    ((v.0 - share.0) / unit) as usize
-}
-
-// After the last ring is marked: 8 if the table is too short; else the choice is made, and the rest of the marks join the footprint.
-fn finish(
-    mask: &mut [u8],
-    people: &[u32],
-    rows: usize,
-    columns: usize,
-    slack: usize,
-    table: &mut [u16],
-) -> Answer
-    requires mask_value { (fits rows columns (length mask.old) ≡ true) × (rows * columns ≤ 65535) × (rows * columns ≤ length people.now) }
-    requires by_index { ((i : ℕ) → i < rows * columns → get_or mask.old i 0 ≤ 2) × (slack ≤ 65535 * 1000000) }
-    ensures { Finished people.now (rows * columns) slack result
-        mask.old mask.new table.old table.new }
-{
-    if table.len() < slack + 1 {
-        ring::wipe(mask, rows, columns);
-        return Answer::Short(slack + 1);
-    }
-    subset::leave_out(mask, people, rows * columns, slack, table);
-    ring::settle(mask, rows, columns, 1);
-    Answer::Done
+// What a round comes to.
+#[derive(Clone, Copy)]
+enum Reached {
+    // It is made; these are the people of the next set.
+    Next(People),
+    // Its ring is the last ring; these are the people of the outer set.
+    LastRing(People),
+    // V equals the share.
+    Share,
 }
 
 // Makes the footprint for a share, from the set F that the mask shows: 1 in the footprint, else 0, and bytes past the area stay. If the
 // table is too short the area's bytes are 0 and the count of entries needed comes. Outside the limits nothing is touched.
 pub fn make(
     mask: &mut [u8],
-    cells: &[u8],
-    people: &[u32],
-    rows: usize,
-    columns: usize,
-    weight: u32,
+    area: Area<'_>,
     share: Weighted,
     table: &mut [u16],
-) -> Answer
-    ensures { MakeDone (area_of rows columns weight cells.now people.now) share.0 result
-        mask.old mask.new cells.now people.now table.old table.new }
+) -> Result<(), MakeRefusal>
+    ensures { MakeDone (part_of area.entry) share.0 result
+        mask.old mask.new area.entry.cells.now area.entry.people.now table.old table.new }
 {
-    if !in_limits(mask, cells, people, rows, columns, weight, share) {
-        return Answer::Outside;
+    if !area.allows(mask, share) {
+        return Err(MakeRefusal::Outside);
     }
-    let start = sum_of(mask, people, rows * columns, 1);
-    let v = value_of(start, weight);
-    let grow = v.0 < share.0;
-    let r = all_rounds(
-        mask, cells, people, rows, columns, grow, weight, share, start,
-    );
-    if !r.last {
-        return Answer::Done;
+    let start = area.people_of(mask, 1);
+    let v = area.value(start);
+    let grow = v < share;
+    let course = Course { area, share, grow };
+    match course.rounds(mask, start) {
+        None => Ok(()),
+        Some(outer) => course.finish(mask, course.slack(outer), table),
     }
-    let outer = r.people;
-    let slack = slack_of(outer, weight, share);
-    finish(mask, people, rows, columns, slack, table)
+}
+
+impl Area<'_> {
+    // The sizes of the grid are within the limits, and what is lent has an element for each place.
+    #[tactic(auto, unfolding(crate::specs::Code::sizes_fit))]
+    fn sizes_fit(self, mask: usize) -> bool
+        ensures { result ≡ sizes_fit self.entry.grid.rows self.entry.grid.columns mask (length self.entry.cells.now) (length self.entry.people.now) }
+    {
+        self.grid.fits(mask)
+            && self.grid.fits(self.cells.len())
+            && self.grid.rows * self.grid.columns <= self.people.len()
+            && self.grid.rows * self.grid.columns <= 65535
+    }
+
+    // The area, the mask and the share are within the limits.
+    #[tactic(auto, unfolding(crate::specs::Promises::in_limits, crate::specs::Code::sizes_fit, crate::specs::Code::some_above))]
+    fn allows(self, mask: &[u8], share: Weighted) -> bool
+        ensures { result
+            ≡ in_limits (part_of self.entry) share.0
+            mask.now self.entry.cells.now self.entry.people.now }
+    {
+        if !self.sizes_fit(mask.len()) || self.weight < 1 || 65535 < self.weight {
+            return false;
+        }
+        let n = self.grid.rows * self.grid.columns;
+        let marked = mask[..n].iter().any(|b| 1 < *b);
+        let crowded = self.people[..n].iter().any(|people| 1000000 < *people);
+        if marked || crowded {
+            return false;
+        }
+        0 < share.0 && share < self.value(self.people_of(self.cells, 1))
+    }
+
+    // The people of the places whose byte is the one given.
+    fn people_of(self, bytes: &[u8], byte: u8) -> People
+        requires { Countable bytes.now self.people.now (self.grid.rows * self.grid.columns) }
+        ensures { result.0 ≡ people_with bytes.now self.entry.people.now (self.entry.grid.rows * self.entry.grid.columns) byte }
+    {
+        let n = self.grid.rows * self.grid.columns;
+        let mut sum = 0;
+        for (b, people) in bytes[..n].iter().zip(self.people) {
+            if *b == byte {
+                sum += u64::from(*people);
+            }
+        }
+        People(sum)
+    }
+
+    // "V of a set is 100 × weight × its people".
+    // Kept as a clause, here, in next_people, slack and finish: People is a unit of any count, and only those of one area are so few.
+    fn value(self, people: People) -> Weighted
+        requires { (people.0 ≤ 65535 * 1000000) × (self.weight ≤ 65535) }
+        ensures { result.0 ≡ 100 * self.entry.weight * people.0 }
+    {
+        people.weighted(100, self.weight)
+    }
+}
+
+impl Course<'_> {
+    // Rounds until one is not made: the people of the outer set, if there is a last ring. Each round changes a place, so they end.
+    fn rounds(self, mask: &mut [u8], start: People) -> Option<People>
+        requires within { Within self.area.grid.rows self.area.grid.columns self.area.weight self.share.0
+            mask.old self.area.cells.now self.area.people.now }
+        requires start_value { start.0 ≡ people_with mask.old self.area.people.now (self.area.grid.rows * self.area.grid.columns) 1 }
+        requires grow_value { self.grow
+            ≡ growing (part_of self.area)
+            self.share.0 (shown mask.old) }
+        ensures { RoundsDone (part_of self.entry.area) self.entry.share.0 result mask.old mask.new }
+    {
+        let mut sum = start;
+        // Kept as a loop: how many rounds there are shows in their data alone.
+        loop {
+            match self.round(mask, sum) {
+                Reached::Next(people) => sum = people,
+                Reached::LastRing(outer) => return Some(outer),
+                Reached::Share => return None,
+            }
+        }
+    }
+
+    // One round. The people of the set are known; those of its ring are counted.
+    fn round(self, mask: &mut [u8], sum: People) -> Reached
+        requires within { Within self.area.grid.rows self.area.grid.columns self.area.weight self.share.0
+            mask.old self.area.cells.now self.area.people.now }
+        requires sum_value { sum.0 ≡ people_with mask.old self.area.people.now (self.area.grid.rows * self.area.grid.columns) 1 }
+        ensures { RoundDone (part_of self.entry.area) self.entry.share.0 self.entry.grow result mask.old mask.new }
+    {
+        let v = self.area.value(sum);
+        if v == self.share {
+            return Reached::Share;
+        }
+        ring::form(mask, self.area.cells, self.area.grid, self.grow);
+        let ring = self.area.people_of(mask, 2);
+        let next = self.next_people(sum, ring);
+        if !self.in_share(self.area.value(next)) {
+            // "the outer set is F and B when growing, F when shrinking"
+            return Reached::LastRing(if self.grow { next } else { sum });
+        }
+        ring::settle(mask, self.area.grid, u8::from(self.grow));
+        Reached::Next(next)
+    }
+
+    // "While V(F and B) ≤ share" growing, "While V(F without B) ≥ share" shrinking.
+    fn in_share(self, v: Weighted) -> bool
+        ensures { result ≡ in_share self.entry.grow v.0 self.entry.share.0 }
+    {
+        if self.grow {
+            v <= self.share
+        } else {
+            self.share <= v
+        }
+    }
+
+    // The people of the next set: "B joins F" growing, "B leaves F" shrinking.
+    fn next_people(self, sum: People, ring: People) -> People
+        requires { (sum.0 ≤ 65535 * 1000000) × (ring.0 ≤ 65535 * 1000000) }
+        ensures { result.0 ≡ cond self.entry.grow (sum.0 + ring.0) (sum.0 - ring.0) }
+    {
+        if self.grow {
+            sum.plus(ring)
+        } else {
+            sum.minus(ring)
+        }
+    }
+
+    // "The slack is (V(outer) - share) / (100 × weight), rounded down": so many people may be left out.
+    fn slack(self, outer: People) -> usize
+        requires { (outer.0 ≤ 65535 * 1000000) × (self.share.0 ≤ 100 * self.area.weight * outer.0) }
+        ensures { (result ≡ (100 * self.entry.area.weight * outer.0 - self.entry.share.0) / (100 * self.entry.area.weight))
+            × (result ≤ 65535 * 1000000) }
+    {
+        let v = self.area.value(outer);
+        let unit = 100 * u64::from(self.area.weight);
+        ((v.0 - self.share.0) / unit) as usize
+    }
+
+    // After the last ring is marked: 8 if the table is too short; else the choice is made, and the rest of the marks join the footprint.
+    fn finish(self, mask: &mut [u8], slack: usize, table: &mut [u16]) -> Result<(), MakeRefusal>
+        requires masked { fits self.area.grid.rows self.area.grid.columns (length mask.old) ≡ true }
+        requires marked { (i : ℕ) → i < self.area.grid.rows * self.area.grid.columns → get_or mask.old i 0 ≤ 2 }
+        requires few { slack ≤ 65535 * 1000000 }
+        ensures { Finished self.entry.area.people.now (self.entry.area.grid.rows * self.entry.area.grid.columns) slack result
+            mask.old mask.new table.old table.new }
+    {
+        if table.len() < slack + 1 {
+            ring::wipe(mask, self.area.grid);
+            return Err(MakeRefusal::TableShort(slack + 1));
+        }
+        let n = self.area.grid.rows * self.area.grid.columns;
+        subset::leave_out(mask, self.area.people, n, slack, table);
+        ring::settle(mask, self.area.grid, 1);
+        Ok(())
+    }
 }

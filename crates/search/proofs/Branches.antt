@@ -1,11 +1,10 @@
 -- What is kept after the positions at and below one, by the branches of its first undecided area. Assumes nothing.
-use Prim.Native.Nat.{ℕ, ◌+◌, ◌-◌, ◌*◌, ◌^◌, ◌<◌, ◌≤◌}
+use Prim.Native.Nat.{ℕ, ◌+◌, ◌-◌, ◌*◌, ◌<◌, ◌≤◌}
 use mathlib.Core.Path.{◌≡◌, sym, ap, ◌∙◌}
 use mathlib.Core.Bool.{cond}
 use mathlib.Core.Logic.{◌⊎◌, inl, inr}
 use mathlib.Core.List.{List, [], ◌∷◌, ◌++◌, foldl-append}
-use native.Mathlib.Nat.{pow-suc, pow-le-pow_right}
-use native.Mathlib.Numerals.{add-one}
+use native.Mathlib.Nat.{pow-le-pow_right}
 use native.Mathlib.Omega.{arith}
 use lib.Dec.{leb, eqb}
 use lib.ListN.{length, get_or, drop}
@@ -84,21 +83,7 @@ search-next sizes at left e s bit k k₁ k₂ k₃ h p q r =
     third (inl w) = rw (eq-eqb e 0 w.0) w.1
     third (inr w) = rw (ne_eqb e 0 w.0) w.1
 
--- what the next call asks
-pub ready-next : {n at e s bit lw ll : ℕ} → Ready n at e s bit lw ll → at < n
-    → (e' s' lw' ll' : ℕ) → e' ≤ at + 1 → s' < bit * 2 → lw' ≡ lw → ll' ≡ ll
-    → Ready n (at + 1) e' s' (bit * 2) lw' ll'
-ready-next {n} {at} {e} {s} {bit} {lw} {ll} r h e' s' lw' ll' he hs hw hl = record {
-  few = r.few;
-  within = omega arith;
-  decided = he;
-  small = hs;
-  power = ap (λ (b : ℕ). b * 2) r.power ∙ sym (ap (λ (j : ℕ). 2 ^ j) (add-one at) ∙ pow-suc 2 at);
-  whites = hw ∙ r.whites;
-  leasts = hl ∙ r.leasts;
-}
-
 -- a set number and its next place are far below 2 ^ 32
-pub bit-small : {n at e s bit lw ll : ℕ} → Ready n at e s bit lw ll → bit ≤ 1_048_576
+pub bit-small : {n at e s bit entries : ℕ} → Ready n at e s bit entries → bit ≤ 1_048_576
 bit-small {at} {bit} r =
     rw r.power (pow-le-pow_right {n = 2} (omega arith) {i = at} {j = 20} (omega (arith, r.few, r.within)))

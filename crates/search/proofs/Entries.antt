@@ -11,12 +11,13 @@ use lib.Dec.{ltb, eqb}
 use lib.ListN.{length, get_or, set, length-set}
 use lib.Seq.{get_or-set_same, get_or-set_other}
 use borrow.Author.Tests.{ltb-true, ltb-false, eqb-true, eqb-false, ne_eqb}
-use Rattle.search.specs.Search.{Kept, Held, Pos, as_kept, keep, note, note_at, note_all}
+use Rattle.search.specs.Search.{Kept, Pos, as_kept, keep, note, note_at, note_all}
+use Rattle.search.specs.declared.Held.{Held}
 use Rattle.search.specs.Choice.{cap, Proper}
 
 -- what an entry holds
 abbrev pub held : Kept → ℕ → Held
-held k t = record { free = get_or k.white t 0; set = get_or k.least t 0 }
+held k t = record { white = get_or k.white t 0; set = get_or k.least t 0 }
 
 -- the tables have an entry t
 abbrev pub Has : Kept → ℕ → Type 0
@@ -24,7 +25,7 @@ Has k t = (t < length k.white) × (t < length k.least)
 
 -- less white space, or as much with a set number that is no greater
 abbrev pub Lex : Held → Held → Type 0
-Lex a b = (a.free < b.free) ⊎ ((a.free ≡ b.free) × (a.set ≤ b.set))
+Lex a b = (a.white < b.white) ⊎ ((a.white ≡ b.white) × (a.set ≤ b.set))
 
 lex-refl : (a : Held) → Lex a a
 lex-refl a = inr (refl, omega arith)
@@ -65,23 +66,23 @@ module _ (f s e : ℕ) (k : Kept) where
     where
       go : (a b c : Bool) → held (kept a b c) t ≡ held k t
       go true b c = λ i. record {
-        free = get_or-set_other k.white e t f 0 h i;
+        white = get_or-set_other k.white e t f 0 h i;
         set = get_or-set_other k.least e t s 0 h i;
       }
       go false true true = λ i. record {
-        free = get_or k.white t 0;
+        white = get_or k.white t 0;
         set = get_or-set_other k.least e t s 0 h i;
       }
       go false true false = refl
       go false false c = refl
 
-  keep_same : Has k e → Least (held k e) (held (keep f s e k) e) (record { free = f; set = s })
+  keep_same : Has k e → Least (held k e) (held (keep f s e k) e) (record { white = f; set = s })
   unfolding keep
   keep_same h =
       go (ltb f (get_or k.white e 0)) (eqb f (get_or k.white e 0)) (ltb s (get_or k.least e 0)) refl refl refl
     where
       x : Held
-      x = record { free = f; set = s }
+      x = record { white = f; set = s }
 
       more : get_or k.white e 0 ≤ f → (f ≡ get_or k.white e 0 → ⊥) → get_or k.white e 0 < f
       more a b = omega arith
@@ -95,14 +96,14 @@ module _ (f s e : ℕ) (k : Kept) where
       go : (a b c : Bool) → ltb f (get_or k.white e 0) ≡ a → eqb f (get_or k.white e 0) ≡ b → ltb s (get_or k.least e 0) ≡ c
           → Least (held k e) (held (kept a b c) e) x
       go true b c p q r = record {
-        old-or-x = inr (λ i. record { free = w i; set = l i });
+        old-or-x = inr (λ i. record { white = w i; set = l i });
         below_old = inl (omega (arith, w, ltb-true f (get_or k.white e 0) p));
         below-x = inr (w, omega (arith, l));
       }
       go false true true p q r =
           let v : get_or k.white e 0 ≡ f = sym (eqb-true f (get_or k.white e 0) q) in
           record {
-            old-or-x = inr (λ i. record { free = v i; set = l i });
+            old-or-x = inr (λ i. record { white = v i; set = l i });
             below_old = inr (refl, omega (arith, l, ltb-true s (get_or k.least e 0) r));
             below-x = inr (v, omega (arith, l));
           }
@@ -148,7 +149,7 @@ abbrev pub Cand : List ℕ → Pos → Type 0
 Cand sizes p = (p.rest ≡ 0) × Proper sizes p.part p.left
 
 abbrev pub value : List ℕ → Pos → Held
-value sizes p = record { free = cap sizes p.part - p.left; set = p.number }
+value sizes p = record { white = cap sizes p.part - p.left; set = p.number }
 
 abbrev step : List ℕ → Kept → Pos → Kept
 step sizes k p = note_at sizes p.rest p.left p.part p.number k

@@ -1,16 +1,17 @@
 -- The test of the limits passes where they hold, and there alone. Assumes nothing.
-use Prim.Native.Nat.{ℕ, zero, suc, ◌+◌, ◌<◌, ◌≤◌}
+use Prim.Native.Nat.{ℕ, zero, suc, ◌<◌, ◌≤◌}
 use mathlib.Core.Path.{◌≡◌, refl, sym, ap, ◌∙◌}
 use mathlib.Core.Bool.{Bool, true, false, ◌&&◌}
 use mathlib.Core.List.{List, [], ◌∷◌}
 use native.Mathlib.Omega.{arith}
 use lib.Dec.{leb, eqb}
-use lib.ListN.{length, get_or, drop, drop_of_length-le}
-use borrow.Author.Tests.{le-leb, lt-leb, leb-true, eq-eqb, ne_eqb, eqb-true}
-use Rattle.lists.proofs.SumLaws.{drop-next}
-use Rattle.lists.proofs.Tests.{both, not_first, not-second, first_of, second-of}
+use lib.ListN.{length, get_or, length-map}
+use Rattle.std.specs.List.{list_all}
+use Rattle.search.specs.declared.Partial.{Partial}
+use borrow.Author.Tests.{le-leb, lt-leb, leb-true, eq-eqb, eqb-true}
+use Rattle.lists.proofs.Tests.{both, not_first, first_of, second-of}
 use Rattle.search.specs.Choice.{largest_size, largest_weight}
-use Rattle.search.specs.Proposal.{at_most, in_limits, Limits}
+use Rattle.search.specs.Proposal.{sizes, weights, at_most, in_limits, Limits}
 
 -- ---- values at most a bound
 
@@ -24,34 +25,6 @@ unfolding at_most
 at-most-each most [] h i = omega arith
 at-most-each most (x ∷ l) h zero = leb-true x most (first_of (leb x most) (at_most most l) h)
 at-most-each most (x ∷ l) h (suc i) = at-most-each most l (second-of (leb x most) (at_most most l) h) i
-
--- the loop: the values before i are at most the bound
-pub record Checking (most : ℕ) (l : List ℕ) (i : ℕ) : Type 0 where
-  pub within : i ≤ length l
-  pub same : at_most most (drop i l) ≡ at_most most l
-
-pub starts : (most : ℕ) (l : List ℕ) → Checking most l 0
-starts most l = record { within = omega arith; same = refl }
-
-module _ (most : ℕ) (l : List ℕ) (i : ℕ) (g : Checking most l i) where
-  pub stops : i < length l → most < get_or l i 0 → false ≡ at_most most l
-  unfolding at_most
-  stops h p =
-      sym (not_first (at_most most (drop (i + 1) l)) (lt-leb (get_or l i 0) most p))
-      ∙ ap (λ x. at_most most x) (sym (drop-next l i 0 h)) ∙ g.same
-
-  pub turns : i < length l → get_or l i 0 ≤ most → Checking most l (i + 1)
-  unfolding at_most
-  turns h p = record {
-    within = omega arith;
-    same =
-        ap (λ (b : Bool). b && at_most most (drop (i + 1) l)) (sym (le-leb (get_or l i 0) most p))
-        ∙ ap (λ x. at_most most x) (sym (drop-next l i 0 h)) ∙ g.same;
-  }
-
-  pub ends : length l ≤ i → true ≡ at_most most l
-  unfolding at_most
-  ends h = ap (λ x. at_most most x) (sym (drop_of_length-le l {i = i} h)) ∙ g.same
 
 -- ---- the limits
 
@@ -80,22 +53,33 @@ pass-limits ms ws h =
 pub past-test : (ms ws : List ℕ) (b : Bool) → b ≡ in_limits ms ws → b ≡ true → Limits ms ws
 past-test ms ws b e h = pass-limits ms ws (sym e ∙ h)
 
--- the tests in turn
-module _ (ms ws : List ℕ) where
-  pub too_many : 20 < length ms → false ≡ in_limits ms ws
-  unfolding in_limits
-  too_many h = sym (not_first _ (lt-leb (length ms) 20 h))
+-- ---- the test of the code
 
-  pub unpaired : length ms ≤ 20 → (length ws ≡ length ms → ⊥) → false ≡ in_limits ms ws
-  unfolding in_limits
-  unpaired few h = sym (not-second (le-leb (length ms) 20 few) (not_first _ (ne_eqb (length ws) (length ms) h)))
+pub too_many : (l : List Partial) → 20 < length l → in_limits (sizes l) (weights l) ≡ false
+unfolding in_limits
+too_many l h = not_first _ (lt-leb (length (sizes l)) 20 (omega (arith, length-map l (λ (p : Partial). p.size.0))))
 
-  module _ (few : length ms ≤ 20) (pairs : length ws ≡ length ms) where
-    pub too_large : at_most largest_size ms ≡ false → false ≡ in_limits ms ws
-    unfolding in_limits
-    too_large h =
-        sym (not-second (le-leb (length ms) 20 few) (not-second (eq-eqb (length ws) (length ms) pairs) (not_first _ h)))
+-- an area with its size and its weight in their limits
+abbrev pub small : Partial → Bool
+small p = leb p.size.0 largest_size && leb p.weight largest_weight
 
-    pub by_weights : at_most largest_size ms ≡ true → at_most largest_weight ws ≡ in_limits ms ws
-    unfolding in_limits
-    by_weights h = simp (le-leb (length ms) 20 few, eq-eqb (length ws) (length ms) pairs, h)
+regroup : (a b c d : Bool) → ((a && b) && (c && d)) ≡ ((a && c) && (b && d))
+regroup true true c d = refl
+regroup true false true d = refl
+regroup true false false d = refl
+regroup false b c d = refl
+
+all-small : (l : List Partial) → list_all small l ≡ (at_most largest_size (sizes l) && at_most largest_weight (weights l))
+unfolding at_most
+all-small [] = refl
+all-small (p ∷ l) =
+    ap (λ (b : Bool). small p && b) (all-small l)
+    ∙ regroup (leb p.size.0 largest_size) (leb p.weight largest_weight) (at_most largest_size (sizes l)) (at_most largest_weight (weights l))
+
+pub by_areas : (l : List Partial) → length l ≤ 20 → list_all small l ≡ in_limits (sizes l) (weights l)
+unfolding in_limits
+by_areas l h =
+    let few : length (sizes l) ≤ 20 = omega (arith, length-map l (λ (p : Partial). p.size.0)) in
+    let pairs : length (weights l) ≡ length (sizes l) =
+    length-map l (λ (p : Partial). p.weight) ∙ sym (length-map l (λ (p : Partial). p.size.0)) in
+    all-small l ∙ sym (rw (le-leb (length (sizes l)) 20 few, eq-eqb (length (weights l)) (length (sizes l)) pairs))

@@ -11,7 +11,8 @@ use native.Mathlib.Omega.{arith}
 use lib.Dec.{ltb}
 use lib.ListN.{length, get_or, length-replicate}
 use borrow.Author.Tests.{ltb-true, ltb-false, lt-ltb}
-use Rattle.search.specs.Search.{Held, Pos, searched, positions}
+use Rattle.search.specs.Search.{Pos, searched, positions}
+use Rattle.search.specs.declared.Held.{Held}
 use Rattle.search.specs.declared.Rank.{Rank}
 use Rattle.search.specs.declared.Answer.{Answer}
 use Rattle.search.specs.Choice.{Mark, out, whole, part, entry_from, entry, number, share, cap, heft, white, Proper, Allowed}
@@ -44,7 +45,7 @@ module _ (T : ℕ) (ms : List ℕ) where
   entry_found t h = found ms (start ms) (positions ms 0 T 0 0 1) t (start_has t h)
 
   -- an allowed choice is not below its entry
-  above : (c : List Mark) → Allowed T ms c → Lex (held (table T ms) (entry c)) (record { free = white T ms c; set = number c })
+  above : (c : List Mark) → Allowed T ms c → Lex (held (table T ms) (entry c)) (record { white = white T ms c; set = number c })
   above c a =
       (entry_found (entry c) (allowed-within c a)).least (outcome ms 0 T 0 0 1 c)
       (visited ms c 0 T 0 0 1 a.each (inl (refl, a.one)) a.under) (refl, a.proper) refl
@@ -67,7 +68,7 @@ module _ (T : ℕ) (ms : List ℕ) where
     pub choice : List Mark
     pub allowed : Allowed T ms choice
     pub at_entry : entry choice ≡ t
-    pub same : held (table T ms) t ≡ record { free = white T ms choice; set = number choice }
+    pub same : held (table T ms) t ≡ record { white = white T ms choice; set = number choice }
 
   pub from : (t : ℕ) → t ≤ length ms → present ms (table T ms).white t ≡ true → From t
   unfolding present start
@@ -75,7 +76,7 @@ module _ (T : ℕ) (ms : List ℕ) where
       (λ e. absurd (omega (
         arith,
         ltb-true (get_or (table T ms).white t 0) (get_or (1 ∷ ms) t 0) p,
-        ap (λ (x : Held). x.free) e,
+        ap (λ (x : Held). x.white) e,
       )))
       (λ x. made x)
       (entry_found t h).source
@@ -241,7 +242,7 @@ module _ (T : ℕ) (ms ws : List ℕ) where
   -- the choice that an entry holds has the entry's rank
   same_rank : (t : ℕ) (f : From T ms t) → rank T ms ws f.choice ≡ rank_at ms ws (table T ms).white t
   unfolding rank_at
-  same_rank t f = λ i. rank_of (cap ms (f.at_entry i)) (sym f.same i).free (heft ws (f.at_entry i))
+  same_rank t f = λ i. rank_of (cap ms (f.at_entry i)) (sym f.same i).white (heft ws (f.at_entry i))
 
   -- no allowed choice ranks ahead of its entry
   no-better : (c : List Mark) → Allowed T ms c → ahead (rank T ms ws c) (rank_at ms ws (table T ms).white (entry c)) ≡ false
@@ -290,7 +291,7 @@ pub record Right (T : ℕ) (ms ws : List ℕ) (r : Answer) : Type 0 where
   pub best : Best T ms ws choice
   pub its-entry : entry choice ≡ r.entry
   pub its-number : number choice ≡ r.number
-  pub its-white : white T ms choice ≡ r.white
+  pub its-white : white T ms choice ≡ r.white.0
   pub smallest : (d : List Mark) → Best T ms ws d → entry d ≡ r.entry → r.number ≤ number d
 
 module _ (T : ℕ) (ms ws : List ℕ) (c₀ : List Mark) (a₀ : Allowed T ms c₀) where
@@ -338,6 +339,6 @@ module _ (T : ℕ) (ms ws : List ℕ) (c₀ : List Mark) (a₀ : Allowed T ms c�
             best = b;
             its-entry = f.at_entry;
             its-number = sym (ap (λ (x : Held). x.set) f.same);
-            its-white = sym (ap (λ (x : Held). x.free) f.same);
+            its-white = sym (ap (λ (x : Held). x.white) f.same);
             smallest = λ d q e. subst (λ (j : ℕ). get_or (table T ms).least j 0 ≤ number d) e (best-least T ms ws d q);
           }

@@ -1,12 +1,13 @@
 -- The order of ranks: to be level or behind is transitive and total, and with one partial area it goes by white space.
 -- Assumes nothing.
 use Prim.Native.Nat.{ℕ, ◌-◌, ◌*◌, ◌<◌, ◌≤◌}
-use mathlib.Core.Path.{◌≡◌, refl, sym, ap}
-use mathlib.Core.Bool.{Bool, true, false, cond, true≢false}
+use mathlib.Core.Path.{◌≡◌, refl, sym, ap, ◌∙◌}
+use mathlib.Core.Bool.{Bool, true, false, cond, not, beq, ◌&&◌, true≢false, false≢true}
 use mathlib.Core.Logic.{◌⊎◌, inl, inr, ⊎_elim}
 use native.Mathlib.Nat.{eq-or-lt_of_le}
 use native.Mathlib.Omega.{arith}
 use lib.Dec.{ltb, leb}
+use Rattle.lists.specs.Sums.{flag}
 use borrow.Author.Tests.{ltb-true, ltb-false, leb-true, leb-false, lt-ltb, le-ltb}
 use Rattle.lists.proofs.Tests.{by-test}
 use Rattle.search.specs.declared.Rank.{Rank}
@@ -18,8 +19,8 @@ key a = a.white * a.weight
 -- a is level with b or behind it
 abbrev pub Behind : Rank → Rank → Type 0
 Behind a b =
-    (b.far < a.far)
-    ⊎ ((b.far ≡ a.far) × ((b.white < a.white) ⊎ ((b.white ≡ a.white) × (key a ≤ key b))))
+    (flag b.far < flag a.far)
+    ⊎ ((flag b.far ≡ flag a.far) × ((b.white < a.white) ⊎ ((b.white ≡ a.white) × (key a ≤ key b))))
 
 by_order : {C : Type 0} (m n : ℕ) → (m < n → C) → (m ≡ n → C) → (n < m → C) → C
 by_order m n less level more =
@@ -33,12 +34,38 @@ across a b e = (ap (λ (w : ℕ). w * b.weight) e, ap (λ (w : ℕ). w * a.weigh
 
 -- ---- `Behind` is the opposite of ahead
 
-pub behind-of : (a b : Rank) → ahead a b ≡ false → Behind a b
+far-test : (p q : Bool) → (not p && q) ≡ ltb (flag p) (flag q)
+far-test true true = refl
+far-test true false = refl
+far-test false true = refl
+far-test false false = refl
+
+-- one of two is far, as the code tests it
+pub far-apart : (p q : Bool) (r : Bool) → not (beq p q) ≡ true → q ≡ cond (not p && q) true (cond (not q && p) false r)
+far-apart true true r h = absurd (false≢true h)
+far-apart true false r h = refl
+far-apart false true r h = refl
+far-apart false false r h = absurd (false≢true h)
+
+pub far-level : (p q : Bool) (r x : Bool) → not (beq p q) ≡ false → x ≡ r → x ≡ cond (not p && q) true (cond (not q && p) false r)
+far-level true true r x h e = e
+far-level true false r x h e = absurd (true≢false h)
+far-level false true r x h e = absurd (true≢false h)
+far-level false false r x h e = e
+
+-- the tests of `ahead`, with far as 1 or 0
+by-flags : (a b : Rank) → ahead a b
+    ≡ cond (ltb (flag a.far) (flag b.far)) true (cond (ltb (flag b.far) (flag a.far)) false
+    (cond (ltb a.white b.white) true (cond (ltb b.white a.white) false (ltb (a.white * b.weight) (b.white * a.weight)))))
 unfolding ahead
+by-flags a b = rw (far-test a.far b.far, far-test b.far a.far)
+
+pub behind-of : (a b : Rank) → ahead a b ≡ false → Behind a b
 behind-of a b h =
-    go (ltb a.far b.far) (ltb b.far a.far) (ltb a.white b.white) (ltb b.white a.white) refl refl refl refl h
+    go (ltb (flag a.far) (flag b.far)) (ltb (flag b.far) (flag a.far)) (ltb a.white b.white) (ltb b.white a.white)
+    refl refl refl refl (sym (by-flags a b) ∙ h)
   where
-    go : (p q r s : Bool) → ltb a.far b.far ≡ p → ltb b.far a.far ≡ q
+    go : (p q r s : Bool) → ltb (flag a.far) (flag b.far) ≡ p → ltb (flag b.far) (flag a.far) ≡ q
         → ltb a.white b.white ≡ r → ltb b.white a.white ≡ s
         → cond p true (cond q false (cond r true (cond s false (ltb (a.white * b.weight) (b.white * a.weight))))) ≡ false
         → Behind a b
@@ -52,9 +79,10 @@ behind-of a b h =
         inr (omega (arith, ltb-false), inr (sym w, omega (arith, across a b w, k)))
 
 pub of-behind : (a b : Rank) → Behind a b → ahead a b ≡ false
-unfolding ahead
-of-behind a b (inl h) = rw (le-ltb a.far b.far (omega arith), lt-ltb b.far a.far h)
-of-behind a b (inr h) = rw (le-ltb a.far b.far (omega arith), le-ltb b.far a.far (omega arith)) (go h.1)
+of-behind a b (inl h) =
+    by-flags a b ∙ rw (le-ltb (flag a.far) (flag b.far) (omega arith), lt-ltb (flag b.far) (flag a.far) h)
+of-behind a b (inr h) =
+    by-flags a b ∙ rw (le-ltb (flag a.far) (flag b.far) (omega arith), le-ltb (flag b.far) (flag a.far) (omega arith)) (go h.1)
   where
     people : Bool
     people = ltb (a.white * b.weight) (b.white * a.weight)
@@ -87,7 +115,7 @@ behind-trans a b c p q = of-behind a c (behind-behind a b c (behind-of a b p) (b
 
 either : (a b : Rank) → Behind a b ⊎ Behind b a
 either a b =
-    by_order a.far b.far
+    by_order (flag a.far) (flag b.far)
     (λ l. inr (inl l))
     (λ f. by_order a.white b.white
     (λ l. inr (inr (f, inl l)))
@@ -103,37 +131,37 @@ behind-total a b = ⊎_elim (λ h. inl (of-behind a b h)) (λ h. inr (of-behind 
 -- ---- with one partial area
 
 module _ (size w w' weight : ℕ) where
-  -- all-whole at a white space
-  abbrev near : ℕ → Bool
-  near v = leb (9 * size) (10 * (size - v))
+  -- not all-whole at a white space
+  abbrev far : ℕ → Bool
+  far v = ltb (10 * (size - v)) (9 * size)
 
   abbrev ranking : Bool → ℕ → Rank
-  ranking p v = record { far = cond p 0 1; white = v; weight = weight }
+  ranking p v = record { far = p; white = v; weight = weight }
 
   -- no less white space is no better
   pub more-white : w ≤ w' → ahead (rank_of size w' weight) (rank_of size w weight) ≡ false
   unfolding rank_of
   more-white h =
-      of-behind (rank_of size w' weight) (rank_of size w weight) (go (near w) (near w') refl refl (eq-or-lt_of_le h))
+      of-behind (rank_of size w' weight) (rank_of size w weight) (go (far w) (far w') refl refl (eq-or-lt_of_le h))
     where
-      go : (p q : Bool) → near w ≡ p → near w' ≡ q → (w ≡ w') ⊎ (w < w') → Behind (ranking q w') (ranking p w)
-      go true false e₁ e₂ x = inl (omega arith)
-      go false true e₁ e₂ x =
-          absurd (omega (arith, leb-true (9 * size) (10 * (size - w')) e₂, leb-false (9 * size) (10 * (size - w)) e₁))
-      go true true e₁ e₂ (inl x) = inr (refl, inr (x, omega (arith, ap (λ (n : ℕ). n * weight) x)))
-      go true true e₁ e₂ (inr x) = inr (refl, inl x)
+      go : (p q : Bool) → far w ≡ p → far w' ≡ q → (w ≡ w') ⊎ (w < w') → Behind (ranking q w') (ranking p w)
+      go false true e₁ e₂ x = inl (omega arith)
+      go true false e₁ e₂ x =
+          absurd (omega (arith, ltb-false (10 * (size - w')) (9 * size) e₂, ltb-true (10 * (size - w)) (9 * size) e₁))
       go false false e₁ e₂ (inl x) = inr (refl, inr (x, omega (arith, ap (λ (n : ℕ). n * weight) x)))
       go false false e₁ e₂ (inr x) = inr (refl, inl x)
+      go true true e₁ e₂ (inl x) = inr (refl, inr (x, omega (arith, ap (λ (n : ℕ). n * weight) x)))
+      go true true e₁ e₂ (inr x) = inr (refl, inl x)
 
   -- and less is better
   pub less-white : w < w' → ahead (rank_of size w weight) (rank_of size w' weight) ≡ false → ⊥
   unfolding rank_of
-  less-white h e = go (near w) (near w') refl refl (behind-of (rank_of size w weight) (rank_of size w' weight) e)
+  less-white h e = go (far w) (far w') refl refl (behind-of (rank_of size w weight) (rank_of size w' weight) e)
     where
-      go : (p q : Bool) → near w ≡ p → near w' ≡ q → Behind (ranking p w) (ranking q w') → ⊥
-      go false true e₁ e₂ x =
-          omega (arith, leb-true (9 * size) (10 * (size - w')) e₂, leb-false (9 * size) (10 * (size - w)) e₁)
-      go true q e₁ e₂ (inl x) = omega arith
-      go false false e₁ e₂ (inl x) = omega arith
-      go true q e₁ e₂ (inr x) = ⊎_elim (λ y. omega arith) (λ y. omega arith) x.1
-      go false false e₁ e₂ (inr x) = ⊎_elim (λ y. omega arith) (λ y. omega arith) x.1
+      go : (p q : Bool) → far w ≡ p → far w' ≡ q → Behind (ranking p w) (ranking q w') → ⊥
+      go true false e₁ e₂ x =
+          omega (arith, ltb-false (10 * (size - w')) (9 * size) e₂, ltb-true (10 * (size - w)) (9 * size) e₁)
+      go false q e₁ e₂ (inl x) = omega arith
+      go true true e₁ e₂ (inl x) = omega arith
+      go false q e₁ e₂ (inr x) = ⊎_elim (λ y. omega arith) (λ y. omega arith) x.1
+      go true true e₁ e₂ (inr x) = ⊎_elim (λ y. omega arith) (λ y. omega arith) x.1

@@ -1,16 +1,26 @@
 -- What the selection's reads and loops come to. Assumes nothing.
 use Prim.Native.Nat.{ℕ, zero, suc, ◌+◌, ◌-◌, ◌<◌, ◌≤◌}
-use mathlib.Core.Path.{◌≡◌, refl, sym, ap, ◌∙◌}
-use mathlib.Core.Bool.{true, false, cond}
-use mathlib.Core.List.{List, [], ◌∷◌, ◌++◌, append-nil}
+use mathlib.Core.Path.{◌≡◌, refl, sym, ap, subst, ◌∙◌}
+use mathlib.Core.Bool.{Bool, true, false, cond, true≢false}
+use mathlib.Core.Logic.{⊎_elim}
+use Rattle.std.proofs.Common.{Option, Some, None}
+use Rattle.std.proofs.lemmas.List.{get_or_past}
+use Rattle.std.proofs.lemmas.List.{get_or-map as get_or-map-in}
+use native.Mathlib.Nat.{eq-or-lt_of_le}
+use mathlib.Core.List.{List, [], ◌∷◌, ◌++◌, map}
+use Rattle.std.specs.List.{filter, range_with_len}
+use Rattle.std.proofs.lemmas.List.{map-id}
+use Rattle.std.proofs.lemmas.List.FromFn.{filter_of_map_range_with_len_more}
 use native.Mathlib.Numerals.{add-one}
 use native.Mathlib.Omega.{arith}
-use lib.ListN.{length, get_or, take, set, length-set}
-use lib.Seq.{take-suc-set}
-use borrow.Author.Tests.{ltb-true}
+use lib.ListN.{length, get_or, length-map, get_or-map}
+use borrow.Author.Tests.{ltb-true, lt-ltb, le-ltb}
 use Rattle.search.specs.declared.Rank.{Rank}
+use Rattle.search.specs.declared.Partial.{Partial}
+use Rattle.search.specs.declared.Held.{Held}
+use Rattle.search.specs.Search.{whites}
 use Rattle.search.specs.Choice.{rank_of, ahead, cap, heft, largest_size, largest_weight}
-use Rattle.search.specs.Proposal.{present, rank_at, clear, best_at, tied_to, Ranked, Tied}
+use Rattle.search.specs.Proposal.{sizes, weights, present, rank_at, rank_held, clear, best_at, tied_to, Small, Limits}
 
 -- ---- entry 0, and entry p + 1 for place p
 
@@ -22,107 +32,190 @@ pub get_or-pred : (x : ℕ) (l : List ℕ) (t : ℕ) → (t ≡ 0 → ⊥) → g
 get_or-pred x l zero h = absurd (h refl)
 get_or-pred x l (suc j) h = ap (λ (i : ℕ). get_or l i 0) (omega arith)
 
--- ---- the rank at an entry that holds a choice
+-- ---- what the code reads
 
-pub present-below : (ms wh : List ℕ) (t : ℕ) → present ms wh t ≡ true → get_or wh t 0 < get_or (1 ∷ ms) t 0
-unfolding present
-present-below ms wh t h = ltb-true _ _ h
+-- past the areas
+abbrev pub none : Partial
+none = record { size = record { 0 = 0 }; weight = 0 }
 
-pub ranked : (ms ws wh : List ℕ) (t : ℕ) (r : Rank) (size weight : ℕ) → r ≡ rank_of size (get_or wh t 0) weight
-    → cap ms t ≡ size → heft ws t ≡ weight → get_or wh t 0 ≤ largest_size → weight ≤ largest_weight
-    → Ranked r (rank_at ms ws wh t)
-unfolding rank_at rank_of
-ranked ms ws wh t r size weight e p q a b = record {
-  same = e ∙ (λ i. rank_of (sym p i) (get_or wh t 0) (sym q i));
-  white-small = rw e a;
-  weight-small = rw e b;
-}
+pub size-of : (partials : List Partial) (i : ℕ) → get_or (sizes partials) i 0 ≡ (get_or partials i none).size.0
+size-of partials i = get_or-map (λ (p : Partial). p.size.0) partials i none
 
--- ---- the loop of `clear`: from the last entry down
+weight-of : (partials : List Partial) (i : ℕ) → get_or (weights partials) i 0 ≡ (get_or partials i none).weight
+weight-of partials i = get_or-map (λ (p : Partial). p.weight) partials i none
+
+pub white-of : (table : List Held) (t : ℕ) (h : Held) → t < length table → h ≡ get_or table t h
+    → h.white ≡ get_or (whites table) t 0
+white-of table t h l e =
+    ap (λ (g : Held). g.white) e ∙ sym (get_or-map-in (λ (g : Held). g.white) table t h 0 l)
+
+-- ---- the rank at an entry
+
+-- what an Option made by a test holds
+tested : {A : Type 0} {x y : A} (p : Bool) → cond p (Some x) None ≡ Some y → (p ≡ true) × (x ≡ y)
+tested true e = (refl, cc)
+tested false e = absurd cc
+
+untested : {A : Type 0} (x : A) (p : Bool) → cond p (Some x) None ≡ None → p ≡ false
+untested x true e = absurd cc
+untested x false e = refl
+
+module _ (ms ws wh : List ℕ) where
+  -- an entry past the table holds none
+  pub past-none : (t : ℕ) → length wh ≡ length ms + 1 → length wh ≤ t → None ≡ rank_held ms ws wh t
+  unfolding present
+  past-none t e h = rw (get_or_past wh t 0 h, get_or_past (1 ∷ ms) t 0 (omega arith))
+
+  pub rank-none : (t : ℕ) → get_or (1 ∷ ms) t 0 ≤ get_or wh t 0 → None ≡ rank_held ms ws wh t
+  unfolding present
+  rank-none t h = rw (le-ltb (get_or wh t 0) (get_or (1 ∷ ms) t 0) h)
+
+  pub rank-some : (t size weight : ℕ) → get_or wh t 0 < get_or (1 ∷ ms) t 0 → cap ms t ≡ size → heft ws t ≡ weight
+      → Some (rank_of size (get_or wh t 0) weight) ≡ rank_held ms ws wh t
+  unfolding present rank_at
+  rank-some t size weight h p q = rw (lt-ltb (get_or wh t 0) (get_or (1 ∷ ms) t 0) h, p, q)
+
+  -- the products across fit
+  pub rank-small : (t : ℕ) (r : Rank) → Limits ms ws → Some r ≡ rank_held ms ws wh t → Small r
+  unfolding present rank_at rank_of
+  rank-small t r l e =
+      let h = tested (present ms wh t) (sym e) in
+      let below = ltb-true (get_or wh t 0) (get_or (1 ∷ ms) t 0) h.0 in
+      let w : r.white ≡ get_or wh t 0 = sym (ap (λ (q : Rank). q.white) h.1) in
+      let v : r.weight ≡ heft ws t = sym (ap (λ (q : Rank). q.weight) h.1) in
+      record {
+        white = omega (arith, least-size t, below, w);
+        weight = rw v (least-weight t);
+      }
+    where
+      least-size : (t : ℕ) → get_or (1 ∷ ms) t 0 ≤ largest_size
+      least-size zero = omega arith
+      least-size (suc i) = l.sizes i
+
+      least-weight : (t : ℕ) → heft ws t ≤ largest_weight
+      least-weight zero = omega arith
+      least-weight (suc i) = l.weights i
+
+-- ---- the same, as the code reads it
+
+module _ (partials : List Partial) (table : List Held) (t : ℕ) where
+  abbrev Is : Option Rank → Type 0
+  Is o = o ≡ rank_held (sizes partials) (weights partials) (whites table) t
+
+  pub read-past : length table ≡ length partials + 1 → length table ≤ t → Is None
+  read-past e h =
+      past-none (sizes partials) (weights partials) (whites table) t
+      (omega (arith, length-map table (λ (g : Held). g.white), length-map partials (λ (p : Partial). p.size.0)))
+      (omega (arith, length-map table (λ (g : Held). g.white)))
+
+  module _ (w : ℕ) (e : w ≡ get_or (whites table) t 0) where
+    pub exact-none : t ≡ 0 → 1 ≤ w → Is None
+    exact-none z h =
+        rank-none (sizes partials) (weights partials) (whites table) t (omega (arith, get_or-zero 1 (sizes partials) t z))
+
+    pub exact-some : (r : Rank) → t ≡ 0 → w < 1 → r ≡ rank_of 0 w 1 → Is (Some r)
+    exact-some r z h q =
+        ap (λ (x : Rank). Some x) (q ∙ ap (λ (v : ℕ). rank_of 0 v 1) e)
+        ∙ rank-some (sizes partials) (weights partials) (whites table) t 0 1
+        (omega (arith, get_or-zero 1 (sizes partials) t z))
+        (get_or-zero 0 (sizes partials) t z) (get_or-zero 1 (weights partials) t z)
+
+    -- its area
+    abbrev area : Partial
+    area = get_or partials (t - 1) none
+
+    before : (x : ℕ) → (t ≡ 0 → ⊥) → get_or (x ∷ sizes partials) t 0 ≡ area.size.0
+    before x z = get_or-pred x (sizes partials) t z ∙ size-of partials (t - 1)
+
+    pub area-none : (t ≡ 0 → ⊥) → area.size.0 ≤ w → Is None
+    area-none z h = rank-none (sizes partials) (weights partials) (whites table) t (omega (arith, before 1 z))
+
+    pub area-some : (r : Rank) → (t ≡ 0 → ⊥) → w < area.size.0 → r ≡ rank_of area.size.0 w area.weight → Is (Some r)
+    area-some r z h q =
+        ap (λ (x : Rank). Some x) (q ∙ ap (λ (v : ℕ). rank_of area.size.0 v area.weight) e)
+        ∙ rank-some (sizes partials) (weights partials) (whites table) t area.size.0 area.weight
+        (omega (arith, before 1 z)) (before 0 z)
+        (get_or-pred 1 (weights partials) t z ∙ weight-of partials (t - 1))
+
+-- ---- the loop of `clear`: from the first entry up
 
 module _ (ms ws wh : List ℕ) (r : Rank) where
-  -- the entries from i on are passed
-  abbrev pub Passed : ℕ → ℕ → Type 0
-  Passed n i = (i ≤ n) × (clear ms ws wh r n ≡ clear ms ws wh r i)
-
-  pub clear_none : (n i : ℕ) → Passed n i → i ≤ 0 → true ≡ clear ms ws wh r n
+  -- once an entry ranks ahead, one does
+  pub clear-stays : (i n : ℕ) → i ≤ n → clear ms ws wh r i ≡ false → clear ms ws wh r n ≡ false
   unfolding clear
-  clear_none n zero p h = sym p.1
-  clear_none n (suc i) p h = absurd (omega arith)
+  clear-stays zero n h e = absurd (true≢false e)
+  clear-stays (suc i) zero h e = absurd (omega arith)
+  clear-stays (suc i) (suc n) h e = ⊎_elim
+      (λ q. subst (λ (j : ℕ). clear ms ws wh r j ≡ false) q e)
+      (λ q. go (present ms wh n) (ahead (rank_at ms ws wh n) r) (clear-stays (suc i) n (omega arith) e))
+      (eq-or-lt_of_le h)
+    where
+      go : (a b : Bool) → clear ms ws wh r n ≡ false → cond a (cond b false (clear ms ws wh r n)) (clear ms ws wh r n) ≡ false
+      go true true q = refl
+      go true false q = q
+      go false b q = q
 
-  clear_step : (i : ℕ) → 0 < i → clear ms ws wh r i ≡ cond (present ms wh (i - 1))
-      (cond (ahead (rank_at ms ws wh (i - 1)) r) false (clear ms ws wh r (i - 1))) (clear ms ws wh r (i - 1))
+  -- an entry that holds no choice, or one that is not ahead
+  pub clear-empty : (i : ℕ) → clear ms ws wh r i ≡ true → None ≡ rank_held ms ws wh i → clear ms ws wh r (i + 1) ≡ true
   unfolding clear
-  clear_step zero h = absurd (omega arith)
-  clear_step (suc j) h = let e : suc j - 1 ≡ j = omega arith in rw e
+  clear-empty i c e = rw (add-one, untested (rank_at ms ws wh i) (present ms wh i) (sym e)) c
 
-  module _ (n i : ℕ) (passed : Passed n i) (some : 0 < i) where
-    pub clear-stop : present ms wh (i - 1) ≡ true → ahead (rank_at ms ws wh (i - 1)) r ≡ true → false ≡ clear ms ws wh r n
-    clear-stop p q = sym (passed.1 ∙ clear_step i some ∙ rw (p, q))
+  pub clear-past : (i : ℕ) (q : Rank) → clear ms ws wh r i ≡ true → Some q ≡ rank_held ms ws wh i → ahead q r ≡ false
+      → clear ms ws wh r (i + 1) ≡ true
+  unfolding clear
+  clear-past i q c e a =
+      let h = tested (present ms wh i) (sym e) in rw (add-one, h.0, h.1, a) c
 
-    pub clear-past : present ms wh (i - 1) ≡ true → ahead (rank_at ms ws wh (i - 1)) r ≡ false → Passed n (i - 1)
-    clear-past p q = (omega (arith, passed.0), passed.1 ∙ clear_step i some ∙ rw (p, q))
-
-    pub clear-empty : present ms wh (i - 1) ≡ false → Passed n (i - 1)
-    clear-empty p = (omega (arith, passed.0), passed.1 ∙ clear_step i some ∙ rw p)
+  pub clear-stop : (i n : ℕ) (q : Rank) → i < n → Some q ≡ rank_held ms ws wh i → ahead q r ≡ true
+      → false ≡ clear ms ws wh r n
+  unfolding clear
+  clear-stop i n q l e a =
+      let h = tested (present ms wh i) (sym e) in
+      let here : clear ms ws wh r (suc i) ≡ false = rw (h.0, h.1, a) in
+      sym (clear-stays (suc i) n (omega arith) here)
 
 -- ---- the best entries
 
-module _ (ms ws wh : List ℕ) (t : ℕ) where
-  pub best-held : (r : Rank) → Ranked r (rank_at ms ws wh t) → present ms wh t ≡ true
-      → clear ms ws wh r (length ms + 1) ≡ best_at ms ws wh t
+module _ (partials : List Partial) (table : List Held) (t : ℕ) where
+  abbrev P : Bool
+  P = present (sizes partials) (whites table) t
+
+  abbrev R : Rank
+  R = rank_at (sizes partials) (weights partials) (whites table) t
+
+  pub best-held : (r : Rank) → Some r ≡ rank_held (sizes partials) (weights partials) (whites table) t
+      → clear (sizes partials) (weights partials) (whites table) r (length partials + 1)
+      ≡ best_at (sizes partials) (weights partials) (whites table) t
   unfolding best_at
-  best-held r q p = ap (λ (x : Rank). clear ms ws wh x (length ms + 1)) q.same ∙ rw (p, add-one)
+  best-held r e =
+      let h = tested P (sym e) in
+      let n : length partials + 1 ≡ suc (length (sizes partials)) =
+      omega (arith, length-map partials (λ (p : Partial). p.size.0)) in
+      rw (h.0, h.1, n)
 
-  pub best_none : present ms wh t ≡ false → false ≡ best_at ms ws wh t
+  pub best_none : None ≡ rank_held (sizes partials) (weights partials) (whites table) t
+      → false ≡ best_at (sizes partials) (weights partials) (whites table) t
   unfolding best_at
-  best_none p = rw p
+  best_none e = rw (untested R P (sym e))
 
--- ---- the loop of `find_ties`: entry by entry
+-- ---- the tied entries
 
-module _ (ms ws wh : List ℕ) where
-  -- the entries up to i are seen, and the first n places of l hold the tied ones
-  pub record Seen (n i : ℕ) (l : List ℕ) : Type 0 where
-    pub within : i ≤ length ms
-    pub few : n ≤ i
-    pub room : length l ≡ 20
-    pub same : take n l ≡ tied_to ms ws wh i
+-- they are those of 1 up to n that are best
+pub tied-filter : (ms ws wh : List ℕ) (n : ℕ)
+    → tied_to ms ws wh n ≡ filter (λ t. best_at ms ws wh t) (range_with_len 1 n)
+unfolding tied_to
+tied-filter ms ws wh zero = refl
+tied-filter ms ws wh (suc n) =
+    ap (λ (l : List ℕ). l ++ last) (tied-filter ms ws wh n ∙ same n)
+    ∙ sym (filter_of_map_range_with_len_more best (λ t. t) 1 n (suc n) (omega arith))
+    ∙ sym (same (n + 1))
+    ∙ ap (λ (j : ℕ). filter best (range_with_len 1 j)) (add-one n)
+  where
+    best : ℕ → Bool
+    best t = best_at ms ws wh t
 
-  pub seen-starts : (l : List ℕ) → length l ≡ 20 → Seen 0 0 l
-  unfolding tied_to
-  seen-starts l h = record { within = omega arith; few = omega arith; room = h; same = refl }
+    last : List ℕ
+    last = cond (best (suc n)) (suc n ∷ []) []
 
-  pub seen-ends : (n i : ℕ) (l : List ℕ) → Seen n i l → length ms ≤ i → Tied ms ws wh n l
-  seen-ends n i l s h = record {
-    same = s.same ∙ ap (λ (j : ℕ). tied_to ms ws wh j) (omega (arith, s.within));
-    few = omega (arith, s.within, s.few);
-    room = s.room;
-  }
-
-  module _ (n i : ℕ) (l : List ℕ) (s : Seen n i l) (h : i < length ms) where
-    pub tied-skip : best_at ms ws wh (i + 1) ≡ false → Seen n (i + 1) l
-    unfolding tied_to
-    tied-skip b =
-        let e : best_at ms ws wh (suc i) ≡ false = rw add-one at b in
-        record {
-          within = omega arith;
-          few = omega (arith, s.few);
-          room = s.room;
-          same = s.same ∙ sym (rw (add-one, e) (append-nil (tied_to ms ws wh i)));
-        }
-
-    pub tied-write : length ms ≤ 20 → best_at ms ws wh (i + 1) ≡ true → Seen (n + 1) (i + 1) (set l n (i + 1))
-    unfolding tied_to
-    tied-write few b =
-        let e : best_at ms ws wh (suc i) ≡ true = rw add-one at b in
-        let more : tied_to ms ws wh (i + 1) ≡ tied_to ms ws wh i ++ ((i + 1) ∷ []) = rw (add-one, e) in
-        record {
-          within = omega arith;
-          few = omega (arith, s.few);
-          room = simp length-set s.room;
-          same =
-              ap (λ (j : ℕ). take j (set l n (i + 1))) (add-one n)
-              ∙ take-suc-set l n (i + 1) (omega (arith, s.few, s.room))
-              ∙ ap (λ (q : List ℕ). q ++ ((i + 1) ∷ [])) s.same
-              ∙ sym more;
-        }
+    same : (j : ℕ) → filter best (range_with_len 1 j) ≡ filter best (map (λ t. t) (range_with_len 1 j))
+    same j = ap (λ (l : List ℕ). filter best l) (sym (map-id (range_with_len 1 j)))

@@ -1,6 +1,6 @@
 -- Document 01, "The proposal": choices of the partial areas, which of them are allowed, and how they rank. Assumes nothing.
 -- T is "the sum of v over S"; ms are the sizes M and ws the weights of the areas of S, "ascending".
-use Rattle.std.specs.Prelude.{ℕ, suc, ◌+◌, ◌-◌, ◌*◌, ◌<◌, ◌≤◌, ◌≡◌, Bool, true, false, cond, ◌⊎◌, List, [], ◌∷◌, ltb, leb, length, get_or}
+use Rattle.std.specs.Prelude.{ℕ, suc, ◌+◌, ◌-◌, ◌*◌, ◌<◌, ◌≤◌, ◌≡◌, Bool, true, false, not, cond, ◌&&◌, ◌⊎◌, List, [], ◌∷◌, ltb, leb, length, get_or}
 use Rattle.search.specs.declared.Rank.{Rank}
 
 -- ---- limits, from "The map"
@@ -85,9 +85,9 @@ pub record Allowed (T : ℕ) (ms : List ℕ) (c : List Mark) : Type 0 where
 
 -- ---- how choices rank
 
--- "All-whole means exact, or 10 × share ≥ 9 × M": `far` is 0 for it, else 1. An exact choice has the size 0 and the share 0.
+-- "All-whole means exact, or 10 × share ≥ 9 × M", and `far` is that it is not. An exact choice has the size 0 and the share 0.
 unfoldable pub rank_of : ℕ → ℕ → ℕ → Rank
-rank_of size w weight = record { far = cond (leb (9 * size) (10 * (size - w))) 0 1; white = w; weight = weight }
+rank_of size w weight = record { far = ltb (10 * (size - w)) (9 * size); white = w; weight = weight }
 
 -- "the partial area's weight" by its entry; 1 stands for none, as an exact choice has no white space to divide
 abbrev pub heft : List ℕ → ℕ → ℕ
@@ -101,8 +101,8 @@ rank T ms ws c = rank_of (cap ms (entry c)) (white T ms c) (heft ws (entry c))
 -- "white space / (100 × the partial area's weight), compared as fractions": by their products across
 unfoldable pub ahead : Rank → Rank → Bool
 ahead a b =
-    cond (ltb a.far b.far) true
-    (cond (ltb b.far a.far) false
+    cond (not a.far && b.far) true
+    (cond (not b.far && a.far) false
     (cond (ltb a.white b.white) true
     (cond (ltb b.white a.white) false
     (ltb (a.white * b.weight) (b.white * a.weight)))))

@@ -1,10 +1,22 @@
 -- Document 01, "The proposal": the answer that the tables of the search give. Assumes nothing.
-use Rattle.std.specs.Prelude.{ℕ, zero, suc, ◌+◌, ◌%◌, ◌≤◌, ◌≡◌, Bool, true, false, cond, ◌&&◌, ltb, leb, eqb}
-use Rattle.std.specs.Prelude.{List, [], ◌∷◌, ◌++◌, length, get_or, take, replicate}
+use Rattle.std.specs.Prelude.{ℕ, zero, suc, ◌%◌, ◌≤◌, ◌≡◌, Bool, true, false, cond, ◌&&◌, Option, Some, None, ltb, leb, eqb}
+use Rattle.std.specs.Prelude.{List, map, [], ◌∷◌, ◌++◌, length, get_or, replicate}
 use Rattle.search.specs.declared.Rank.{Rank}
+use Rattle.search.specs.declared.Kind.{Kind}
+use Rattle.search.specs.declared.Kind.TheVariants.{Exact, RoundedUp, OnePart}
+use Rattle.search.specs.declared.Partial.{Partial}
 use Rattle.search.specs.declared.Answer.{Answer}
 use Rattle.search.specs.Search.{Kept, searched}
 use Rattle.search.specs.Choice.{rank_of, ahead, cap, heft, largest_size, largest_weight}
+
+-- ---- the partial areas, ascending
+
+-- their sizes M
+abbrev pub sizes : List Partial → List ℕ
+sizes = map (λ (p : Partial). p.size.0)
+
+abbrev pub weights : List Partial → List ℕ
+weights = map (λ (p : Partial). p.weight)
 
 -- ---- the tables
 
@@ -23,6 +35,10 @@ present ms wh t = ltb (get_or wh t 0) (get_or (1 ∷ ms) t 0)
 -- the rank of the choice that an entry holds
 unfoldable pub rank_at : List ℕ → List ℕ → List ℕ → ℕ → Rank
 rank_at ms ws wh t = rank_of (cap ms t) (get_or wh t 0) (heft ws t)
+
+-- that rank, where the entry holds a choice
+abbrev pub rank_held : List ℕ → List ℕ → List ℕ → ℕ → Option Rank
+rank_held ms ws wh t = cond (present ms wh t) (Some (rank_at ms ws wh t)) None
 
 -- ---- the best-ranked
 
@@ -48,15 +64,21 @@ pick (t ∷ ts) draw = get_or (t ∷ ts) (draw % length (t ∷ ts)) 0
 
 -- ---- the answer
 
--- "kind (1 exact, 2 rounded up, 3 one part)"; all-whole with a partial area is rounded up
-abbrev pub kind_at : List ℕ → List ℕ → List ℕ → ℕ → ℕ
-kind_at ms ws wh t = cond (eqb t 0) 1 (cond (eqb (rank_at ms ws wh t).far 0) 2 3)
+-- "kind (1 exact, 2 rounded up, 3 one part)"
+abbrev pub kind_number : Kind → ℕ
+kind_number Exact = 1
+kind_number RoundedUp = 2
+kind_number OnePart = 3
+
+-- all-whole with a partial area is rounded up
+abbrev pub kind_at : List ℕ → List ℕ → List ℕ → ℕ → Kind
+kind_at ms ws wh t = cond (eqb t 0) Exact (cond (rank_at ms ws wh t).far OnePart RoundedUp)
 
 -- "kind .. white space, tied count" of the answer, with the entry and the set number of its choice
 unfoldable pub answer_at : List ℕ → List ℕ → Kept → ℕ → ℕ → Answer
 answer_at ms ws k n t = record {
   kind = kind_at ms ws k.white t;
-  white = get_or k.white t 0;
+  white = record { 0 = get_or k.white t 0 };
   tied = n;
   entry = t;
   number = get_or k.least t 0;
@@ -81,10 +103,6 @@ unfoldable pub in_limits : List ℕ → List ℕ → Bool
 in_limits ms ws =
     leb (length ms) 20 && (eqb (length ws) (length ms) && (at_most largest_size ms && at_most largest_weight ws))
 
--- what is answered past the limits; no answer to a proposal has the kind 0
-unfoldable pub no_answer : Answer
-no_answer = record { kind = 0; white = 0; tied = 0; entry = 0; number = 0 }
-
 -- ---- what the functions ask of one another
 
 -- what the map's limits say of S; 12 refuses "more than 20 partial areas"
@@ -95,18 +113,6 @@ pub record Limits (ms ws : List ℕ) : Type 0 where
   pub weights : (i : ℕ) → get_or ws i 0 ≤ largest_weight
 
 -- a rank whose products across fit
-pub record Ranked (r : Rank) (is : Rank) : Type 0 where
-  pub same : r ≡ is
-  pub white-small : r.white ≤ largest_size
-  pub weight-small : r.weight ≤ largest_weight
-
--- a table with an entry for each area and one more
-pub record Tables (ms ws wh : List ℕ) : Type 0 where
-  pub limits : Limits ms ws
-  pub entries : length wh ≡ length ms + 1
-
--- the tied areas are the first `count` of `entries`
-pub record Tied (ms ws wh : List ℕ) (count : ℕ) (entries : List ℕ) : Type 0 where
-  pub same : take count entries ≡ tied_to ms ws wh (length ms)
-  pub few : count ≤ length ms
-  pub room : length entries ≡ 20
+pub record Small (r : Rank) : Type 0 where
+  pub white : r.white ≤ largest_size
+  pub weight : r.weight ≤ largest_weight

@@ -1,7 +1,8 @@
 -- Document 01, "The proposal": the search over all choices, as the contracts cite it. Assumes nothing.
 -- "To form a choice, each partial area in turn is left out, taken whole or made the one partial area."
-use Rattle.std.specs.Prelude.{ℕ, zero, suc, ◌+◌, ◌-◌, ◌*◌, ◌^◌, ◌<◌, ◌≤◌, ◌≡◌, cond, ltb, leb, eqb, length, get_or, set, drop}
-use mathlib.Core.List.{List, [], ◌∷◌, ◌++◌, foldl}
+use Rattle.std.specs.Prelude.{ℕ, zero, suc, ◌+◌, ◌-◌, ◌*◌, ◌^◌, ◌<◌, ◌≤◌, ◌≡◌, cond, ◌||◌, ◌&&◌, ltb, leb, eqb, length, get_or, set, drop}
+use mathlib.Core.List.{List, [], ◌∷◌, ◌++◌, foldl, map}
+use Rattle.search.specs.declared.Held.{Held}
 
 -- ---- what is kept
 
@@ -11,9 +12,19 @@ pub record Kept : Type 0 where
   pub white : List ℕ
   pub least : List ℕ
 
--- the two tables of the code
 abbrev pub as_kept : List ℕ → List ℕ → Kept
 as_kept white least = record { white = white; least = least }
+
+-- the white spaces of the code's table, and its set numbers
+abbrev pub whites : List Held → List ℕ
+whites = map (λ (h : Held). h.white)
+
+abbrev pub sets : List Held → List ℕ
+sets = map (λ (h : Held). h.set)
+
+-- what the code's table keeps
+abbrev pub kept_of : List Held → Kept
+kept_of table = as_kept (whites table) (sets table)
 
 -- a choice with white space `free` and set number s, at entry e: kept if its white space is less, or equal with a smaller number
 unfoldable pub keep : ℕ → ℕ → ℕ → Kept → Kept
@@ -66,36 +77,23 @@ unfoldable pub searched : List ℕ → ℕ → ℕ → ℕ → ℕ → ℕ → K
 searched sizes at left e s bit k = note_all sizes k (positions (drop at sizes) at left e s bit)
 
 -- what a call of the search at a position asks: a table entry for each area and one more, and a set number that fits
-pub record Ready (n at e s bit lw ll : ℕ) : Type 0 where
+pub record Ready (n at e s bit entries : ℕ) : Type 0 where
   pub few : n ≤ 20
   pub within : at ≤ n
   pub decided : e ≤ at
   pub small : s < bit
   pub power : bit ≡ 2 ^ at
-  pub whites : lw ≡ n + 1
-  pub leasts : ll ≡ n + 1
+  pub room : entries ≡ n + 1
 
 -- ---- the search with the partial area chosen: it goes by that area's entry alone
 
--- what an entry holds: a white space and a set number
-pub record Held : Type 0 where
-  pub free : ℕ
-  pub set : ℕ
-
--- an entry of the two tables of the code
-abbrev pub as_held : ℕ → ℕ → Held
-as_held free set = record { free = free; set = set }
-
--- the lesser of what is held and a choice with white space f and set number s
-unfoldable pub lesser : ℕ → ℕ → Held → Held
-lesser f s h =
-    cond (ltb f h.free)
-    (record { free = f; set = s })
-    (cond (eqb f h.free) (cond (ltb s h.set) (record { free = h.free; set = s }) h) h)
+-- the lesser of a choice and what is held: less white space, or as much and a smaller set number
+unfoldable pub lesser : Held → Held → Held
+lesser c h = cond (ltb c.white h.white || (eqb c.white h.white && ltb c.set h.set)) c h
 
 -- a complete choice with a partial area of size `cap`: "above 0 and below the M of the partial area"
 unfoldable pub leaf_held : ℕ → ℕ → ℕ → Held → Held
-leaf_held left s cap h = cond (ltb 0 left) (cond (ltb left cap) (lesser (cap - left) s h) h) h
+leaf_held left s cap h = cond (ltb 0 left) (cond (ltb left cap) (lesser (record { white = cap - left; set = s }) h) h) h
 
 -- the remaining areas, each left out or whole
 unfoldable pub within_held : List ℕ → ℕ → ℕ → ℕ → ℕ → Held → Held

@@ -1,56 +1,77 @@
-// Document 01, "The proposal": the search over all choices, and the answer that its tables give. It serves the crate proposal and is
+// Document 01, "The proposal": the search over all choices, and the answer that its table gives. It serves the crate proposal and is
 // no way in for users.
-// All amounts here are weighted MHz-pops. They are plain u64 and not the struct of that unit, as a slice of structs can't be lent
-// in a covered form; areas are given as two slices, their sizes M and their weights, ascending.
+// Partial areas come as a slice, ascending, with their sizes M in weighted MHz-pops. Amounts between those are plain u64: no other unit
+// enters this crate.
 // The search keeps an entry for each partial area, and entry 0 for exact choices: the least white space, and at that white space
 // the smallest set number. With one partial area rank goes by white space alone, so the rest is decided on the entries afterwards.
 #![tactic(auto)]
 
-ghost use Rattle.std.specs.Prelude.{◌≡◌, true, cond, ◌+◌, ◌≤◌, ◌<◌, length, take};
-ghost use Rattle.search.specs.Search.{as_kept, as_held, lesser, leaf_held, within_held, searched, Room, Ready};
+ghost use Rattle.std.specs.Prelude.{◌≡◌, true, cond, ◌+◌, ◌≤◌, ◌<◌, length, Some, None};
+ghost use Rattle.search.specs.Search.{kept_of, whites, lesser, leaf_held, within_held, searched, Room, Ready};
 ghost use Rattle.search.specs.Choice.{rank_of, ahead, largest_size, largest_weight};
-ghost use Rattle.search.specs.Proposal.{start, present, rank_at, clear, best_at, pick, kind_at, answer_at, propose};
-ghost use Rattle.search.specs.Proposal.{Ranked, Limits, Tables, Tied, at_most, in_limits, no_answer};
+ghost use Rattle.search.specs.Proposal.{sizes, weights, kind_number, start, present, rank_at, rank_held, clear, best_at, tied_to, pick};
+ghost use Rattle.search.specs.Proposal.{kind_at, answer_at, propose, Small, Limits, in_limits};
 
-// How a choice ranks: far is 0 if it is all-whole, else 1; its white space; the weight of its partial area.
+use units::Weighted;
+
+// A partial area: its size M and its weight.
+#[derive(Clone, Copy)]
+pub struct Partial {
+    pub size: Weighted,
+    pub weight: u32,
+}
+
+// "kind (1 exact, 2 rounded up, 3 one part)".
+#[derive(Clone, Copy, Debug, PartialEq, Eq)]
+pub enum Kind {
+    Exact = 1,
+    RoundedUp = 2,
+    OnePart = 3,
+}
+
+impl From<Kind> for u32 {
+    fn from(kind: Kind) -> u32
+        ensures { result ≡ kind_number kind }
+    {
+        kind as u32
+    }
+}
+
+// How a choice ranks: whether it is far from all-whole; its white space; the weight of its partial area.
 #[derive(Clone, Copy)]
 pub struct Rank {
-    pub far: u64,
+    pub far: bool,
     pub white: u64,
-    pub weight: u64,
+    pub weight: u32,
+}
+
+// What an entry of the table holds: the least white space, then the smallest set number.
+#[derive(Clone, Copy, Debug, PartialEq, Eq, PartialOrd, Ord)]
+pub struct Held {
+    pub white: u64,
+    pub set: u32,
 }
 
 // The rank of a choice by its partial area's size, its white space and that area's weight.
-fn rank_of(size: u64, white: u64, weight: u64) -> Rank
+fn rank_of(size: u64, white: u64, weight: u32) -> Rank
     requires { (size ≤ largest_size) × (white ≤ size) }
     ensures { result ≡ rank_of size white weight }
 {
-    if 9 * size <= 10 * (size - white) {
-        Rank {
-            far: 0,
-            white,
-            weight,
-        }
-    } else {
-        Rank {
-            far: 1,
-            white,
-            weight,
-        }
+    Rank {
+        far: 10 * (size - white) < 9 * size,
+        white,
+        weight,
     }
 }
 
 // Whether a ranks ahead of b. White-space people are compared as fractions, by their products across.
+// Kept: the order is written out and not derived, as ranks that tie need not be equal.
 fn ahead(a: Rank, b: Rank) -> bool
-    requires { (a.white ≤ largest_size) × (b.white ≤ largest_size)
-        × (a.weight ≤ largest_weight) × (b.weight ≤ largest_weight) }
+    requires { Small a × Small b }
     ensures { result ≡ ahead a b }
 {
-    if a.far < b.far {
-        return true;
-    }
-    if b.far < a.far {
-        return false;
+    if a.far != b.far {
+        return b.far;
     }
     if a.white < b.white {
         return true;
@@ -58,339 +79,241 @@ fn ahead(a: Rank, b: Rank) -> bool
     if b.white < a.white {
         return false;
     }
-    a.white * b.weight < b.white * a.weight
+    a.white * u64::from(b.weight) < b.white * u64::from(a.weight)
 }
 
 // An allowed choice: its entry holds the lesser of what it held and this one.
-fn keep(free: u64, set: u32, white: &mut u64, least: &mut u32)
-    ensures { as_held white.new least.new
-        ≡ lesser free set (as_held white.old least.old) }
+fn keep(white: u64, set: u32, held: &mut Held)
+    ensures { held.new ≡ lesser (record { white = white; set = set }) held.old }
 {
-    let held = *white;
-    if free < held {
-        *white = free;
-        *least = set;
-    } else if free == held {
-        let before = *least;
-        if set < before {
-            *least = set;
-        }
+    let choice = Held { white, set };
+    if choice < *held {
+        *held = choice;
     }
 }
 
 // A complete choice whose partial area has the size `cap`, and which leaves the shortfall `left`: kept if it is allowed.
-fn leaf(left: u64, set: u32, cap: u64, white: &mut u64, least: &mut u32)
-    ensures { as_held white.new least.new
-        ≡ leaf_held left set cap (as_held white.old least.old) }
+fn leaf(left: u64, set: u32, cap: u64, held: &mut Held)
+    ensures { held.new ≡ leaf_held left set cap held.old }
 {
-    if 0 < left {
-        if left < cap {
-            keep(cap - left, set, white, least);
-        }
+    if 0 < left && left < cap {
+        keep(cap - left, set, held);
     }
 }
 
 // Every choice of the remaining areas, left out or whole, where the partial area is chosen and its entry lent.
 // The last area is decided one level up, which saves half of the calls.
-fn within(rest: &[u64], left: u64, set: u32, bit: u32, cap: u64, white: &mut u64, least: &mut u32)
+// Kept: `left`, `set` and `bit` stand apart, here and in `visit`; as one struct they cost a fourth more time (20 areas: 58 ms, not 45).
+fn within(rest: &[Partial], left: u64, set: u32, bit: u32, cap: u64, held: &mut Held)
     requires { Room (length rest.now) set bit }
-    ensures { as_held white.new least.new
-        ≡ within_held rest.now left set bit cap (as_held white.old least.old) }
+    ensures { held.new ≡ within_held (sizes rest.now) left set bit cap held.old }
 {
-    if rest.len() == 0 {
-        leaf(left, set, cap, white, least);
-    } else if rest.len() == 1 {
-        let last = rest[0];
-        leaf(left, set, cap, white, least);
-        if last <= left {
-            leaf(left - last, set + bit, cap, white, least);
+    match rest {
+        [] => leaf(left, set, cap, held),
+        [last] => {
+            leaf(left, set, cap, held);
+            if last.size.0 <= left {
+                leaf(left - last.size.0, set + bit, cap, held);
+            }
         }
-    } else {
-        let first = rest[0];
-        let more = &rest[1..];
-        let double = bit * 2;
-        within(more, left, set, double, cap, white, least);
-        if first <= left {
-            within(more, left - first, set + bit, double, cap, white, least);
+        [first, more @ ..] => {
+            within(more, left, set, bit * 2, cap, held);
+            if first.size.0 <= left {
+                within(more, left - first.size.0, set + bit, bit * 2, cap, held);
+            }
         }
     }
 }
 
 // Every choice of the areas from `at` on, where no area before is partial: the area at `at` is left out, whole if it fits, or partial.
-fn visit(
-    sizes: &[u64],
-    at: usize,
-    left: u64,
-    set: u32,
-    bit: u32,
-    white: &mut [u64],
-    least: &mut [u32],
-)
-    requires { Ready (length sizes.now) at 0 set bit (length white.old) (length least.old) }
-    ensures { as_kept white.new least.new
-        ≡ searched sizes.now at left 0 set bit (as_kept white.old least.old) }
+fn visit(partials: &[Partial], at: usize, left: u64, set: u32, bit: u32, table: &mut [Held])
+    requires { Ready (length partials.now) at 0 set bit (length table.old) }
+    ensures { kept_of table.new ≡ searched (sizes partials.now) at left 0 set bit (kept_of table.old) }
 {
-    if at == sizes.len() {
+    if at == partials.len() {
         if left == 0 {
-            keep(0, set, &mut white[0], &mut least[0]);
+            keep(0, set, &mut table[0]);
         }
     } else {
-        let m = sizes[at];
+        let m = partials[at].size.0;
         let next = at + 1;
         let double = bit * 2;
-        visit(sizes, next, left, set, double, white, least);
+        visit(partials, next, left, set, double, table);
         if m <= left {
-            visit(sizes, next, left - m, set + bit, double, white, least);
+            visit(partials, next, left - m, set + bit, double, table);
         }
-        within(
-            &sizes[next..],
-            left,
-            set,
-            double,
-            m,
-            &mut white[next],
-            &mut least[next],
-        );
+        within(&partials[next..], left, set, double, m, &mut table[next]);
     }
 }
 
-// Whether an entry holds a choice.
-fn holds(sizes: &[u64], white: &[u64], t: usize) -> bool
-    requires { (t ≤ length sizes.now) × (length white.now ≡ length sizes.now + 1) }
-    ensures { result ≡ present sizes.now white.now t }
-{
-    let w = white[t];
-    if t == 0 {
-        return w < 1;
-    }
-    w < sizes[t - 1]
+// The partial areas and the table after the search: an entry for each area and one more.
+#[derive(Clone, Copy)]
+struct Searched<'a> {
+    partials: &'a [Partial],
+    table: &'a [Held],
+    ghost limits: { Limits (sizes partials.now) (weights partials.now) },
+    ghost entries: { length table.now ≡ length partials.now + 1 },
 }
 
-// The rank of the choice that an entry holds.
-fn rank_at(sizes: &[u64], weights: &[u64], white: &[u64], t: usize) -> Rank
-    requires { (t ≤ length sizes.now) × Tables sizes.now weights.now white.now
-        × (present sizes.now white.now t ≡ true) }
-    ensures { Ranked result (rank_at sizes.now weights.now white.now t) }
-{
-    let w = white[t];
-    if t == 0 {
-        return rank_of(0, w, 1);
+impl Searched<'_> {
+    // The rank of the choice that an entry holds, if it holds one.
+    fn rank_at(&self, t: usize) -> Option<Rank>
+        ensures { result ≡ rank_held (sizes self.now.partials.now) (weights self.now.partials.now) (whites self.now.table.now) t }
+    {
+        let white = self.table.get(t)?.white;
+        if t == 0 {
+            return if white < 1 {
+                Some(rank_of(0, white, 1))
+            } else {
+                None
+            };
+        }
+        let area = self.partials[t - 1];
+        if white < area.size.0 {
+            Some(rank_of(area.size.0, white, area.weight))
+        } else {
+            None
+        }
     }
-    rank_of(sizes[t - 1], w, weights[t - 1])
-}
 
-// Whether no entry below n that holds a choice ranks ahead of r.
-fn clear(sizes: &[u64], weights: &[u64], white: &[u64], r: Rank, n: usize) -> bool
-    requires { (n ≤ length sizes.now + 1) × Tables sizes.now weights.now white.now
-        × (r.white ≤ largest_size) × (r.weight ≤ largest_weight) }
-    ensures { result ≡ clear sizes.now weights.now white.now r n }
-{
-    let mut i = n;
-    while 0 < i {
-        i -= 1;
-        if holds(sizes, white, i) {
-            let q = rank_at(sizes, weights, white, i);
-            if ahead(q, r) {
-                return false;
+    // Whether no entry that holds a choice ranks ahead of r.
+    fn clear(&self, r: Rank) -> bool
+        requires { Small r }
+        ensures { result ≡ clear (sizes self.now.partials.now) (weights self.now.partials.now) (whites self.now.table.now) r
+            (length self.now.partials.now + 1) }
+    {
+        for i in 0..self.table.len() {
+            if let Some(q) = self.rank_at(i) {
+                if ahead(q, r) {
+                    return false;
+                }
             }
         }
+        true
     }
-    true
-}
 
-// Whether an entry is that of a best-ranked choice.
-fn best_at(sizes: &[u64], weights: &[u64], white: &[u64], t: usize) -> bool
-    requires { (t ≤ length sizes.now) × Tables sizes.now weights.now white.now }
-    ensures { result ≡ best_at sizes.now weights.now white.now t }
-{
-    if holds(sizes, white, t) {
-        let r = rank_at(sizes, weights, white, t);
-        return clear(sizes, weights, white, r, sizes.len() + 1);
-    }
-    false
-}
-
-// The tied areas by their entries, ascending: the first `count` of `entries`.
-#[derive(Clone, Copy)]
-pub struct Ties {
-    pub count: usize,
-    pub entries: [usize; 20],
-}
-
-// The tied areas, entry by entry.
-fn find_ties(sizes: &[u64], weights: &[u64], white: &[u64]) -> Ties
-    requires { Tables sizes.now weights.now white.now }
-    ensures { Tied sizes.now weights.now white.now result.count result.entries }
-{
-    let mut entries = [0usize; 20];
-    let mut count: usize = 0;
-    let mut i: usize = 0;
-    while i < sizes.len() {
-        i += 1;
-        if best_at(sizes, weights, white, i) {
-            entries[count] = i;
-            count += 1;
+    // Whether an entry is that of a best-ranked choice.
+    fn best_at(&self, t: usize) -> bool
+        ensures { result ≡ best_at (sizes self.now.partials.now) (weights self.now.partials.now) (whites self.now.table.now) t }
+    {
+        match self.rank_at(t) {
+            Some(r) => self.clear(r),
+            None => false,
         }
     }
-    Ties { count, entries }
-}
 
-// The tables before the search: no allowed choice has as much white space as its entry starts with.
-fn fill(sizes: &[u64], white: &mut [u64], least: &mut [u32])
-    requires { (length white.old ≡ length sizes.now + 1) × (length least.old ≡ length sizes.now + 1) }
-    ensures { as_kept white.new least.new ≡ start sizes.now }
-{
-    white[0] = 1;
-    least[0] = 0;
-    let mut i: usize = 0;
-    while i < sizes.len() {
-        let m = sizes[i];
-        i += 1;
-        white[i] = m;
-        least[i] = 0;
+    // How many areas are tied.
+    fn tied(&self) -> usize
+        ensures { result ≡ length (tied_to (sizes self.now.partials.now) (weights self.now.partials.now) (whites self.now.table.now)
+            (length self.now.partials.now)) }
+    {
+        (1..self.table.len()).filter(|t| self.best_at(*t)).count()
+    }
+
+    // The entry of the answer: of the tied areas, ascending, the one at place draw mod tied, or 0 if there are none.
+    fn pick(&self, tied: usize, draw: u32) -> usize
+        requires { tied ≡ length (tied_to (sizes self.now.partials.now) (weights self.now.partials.now) (whites self.now.table.now)
+            (length self.now.partials.now)) }
+        ensures { result ≡ pick (tied_to (sizes self.now.partials.now) (weights self.now.partials.now) (whites self.now.table.now)
+            (length self.now.partials.now)) draw }
+    {
+        if tied == 0 {
+            return 0;
+        }
+        (1..self.table.len())
+            .filter(|t| self.best_at(*t))
+            .nth(draw as usize % tied)
+            .unwrap_or(0)
+    }
+
+    // The kind of the answer at an entry that is 0 or holds a choice.
+    fn kind_at(&self, t: usize) -> Kind
+        requires { (t ≡ 0 → ⊥) → present (sizes self.now.partials.now) (whites self.now.table.now) t ≡ true }
+        ensures { result ≡ kind_at (sizes self.now.partials.now) (weights self.now.partials.now) (whites self.now.table.now) t }
+    {
+        if t == 0 {
+            return Kind::Exact;
+        }
+        match self.rank_at(t) {
+            Some(r) if r.far => Kind::OnePart,
+            _ => Kind::RoundedUp,
+        }
+    }
+
+    // The answer at an entry that is 0 or holds a choice.
+    fn answer_at(&self, tied: usize, t: usize) -> Answer
+        requires { (t ≤ length self.now.partials.now)
+            × ((t ≡ 0 → ⊥) → present (sizes self.now.partials.now) (whites self.now.table.now) t ≡ true) }
+        ensures { result ≡ answer_at (sizes self.now.partials.now) (weights self.now.partials.now) (kept_of self.now.table.now) tied t }
+    {
+        let held = self.table[t];
+        Answer {
+            kind: self.kind_at(t),
+            white: Weighted(held.white),
+            tied,
+            entry: t,
+            number: held.set,
+        }
     }
 }
 
-// The entry of the answer: of the tied areas the one at place draw mod tied, or 0 if there are none.
-fn pick(t: Ties, draw: u32) -> usize
-    requires { (t.count ≤ 20) × (length t.entries ≡ 20) }
-    ensures { result ≡ pick (take t.count t.entries) draw }
+// The table before the search: no allowed choice has as much white space as its entry starts with.
+fn fill(partials: &[Partial], table: &mut [Held])
+    requires { length table.old ≡ length partials.now + 1 }
+    ensures { kept_of table.new ≡ start (sizes partials.now) }
 {
-    let n = t.count;
-    if n == 0 {
-        return 0;
+    table[0] = Held { white: 1, set: 0 };
+    for (i, p) in partials.iter().enumerate() {
+        table[i + 1] = Held {
+            white: p.size.0,
+            set: 0,
+        };
     }
-    let k = draw as usize % n;
-    t.entries[k]
 }
 
 // The answer of the search: kind, white space and tied count of document 01's answer; the entry of the partial area, 0 if exact;
 // and the set number of the whole areas.
 #[derive(Clone, Copy)]
 pub struct Answer {
-    pub kind: u64,
-    pub white: u64,
+    pub kind: Kind,
+    pub white: Weighted,
     pub tied: usize,
     pub entry: usize,
     pub number: u32,
 }
 
-// The kind of the answer at an entry that is 0 or holds a choice: 1 exact, 2 rounded up, 3 one part.
-fn kind_at(sizes: &[u64], weights: &[u64], white: &[u64], t: usize) -> u64
-    requires { (t ≤ length sizes.now) × Tables sizes.now weights.now white.now
-        × ((t ≡ 0 → ⊥) → present sizes.now white.now t ≡ true) }
-    ensures { result ≡ kind_at sizes.now weights.now white.now t }
+// The answer for the partial areas, over a table that the caller lends: an entry for each area and one more.
+fn propose_over(partials: &[Partial], target: u64, draw: u32, table: &mut [Held]) -> Answer
+    requires { Limits (sizes partials.now) (weights partials.now) × (length table.old ≡ length partials.now + 1) }
+    ensures { result ≡ propose target (sizes partials.now) (weights partials.now) draw }
 {
-    if t == 0 {
-        return 1;
-    }
-    let r = rank_at(sizes, weights, white, t);
-    if r.far == 0 {
-        return 2;
-    }
-    3
-}
-
-// The answer at an entry that is 0 or holds a choice.
-fn answer_at(
-    sizes: &[u64],
-    weights: &[u64],
-    white: &[u64],
-    least: &[u32],
-    tied: usize,
-    t: usize,
-) -> Answer
-    requires { (t ≤ length sizes.now) × Tables sizes.now weights.now white.now
-        × (length least.now ≡ length sizes.now + 1) × ((t ≡ 0 → ⊥) → present sizes.now white.now t ≡ true) }
-    ensures { result
-        ≡ answer_at sizes.now weights.now (as_kept white.now least.now) tied t }
-{
-    let kind = kind_at(sizes, weights, white, t);
-    let w = white[t];
-    let s = least[t];
-    Answer {
-        kind,
-        white: w,
-        tied,
-        entry: t,
-        number: s,
-    }
-}
-
-// The answer for the partial areas, over two tables that the caller lends: an entry for each area and one more.
-fn propose_over(
-    sizes: &[u64],
-    weights: &[u64],
-    target: u64,
-    draw: u32,
-    white: &mut [u64],
-    least: &mut [u32],
-) -> Answer
-    requires { Limits sizes.now weights.now
-        × (length white.old ≡ length sizes.now + 1) × (length least.old ≡ length sizes.now + 1) }
-    ensures { result ≡ propose target sizes.now weights.now draw }
-{
-    fill(sizes, white, least);
-    visit(sizes, 0, target, 0, 1, white, least);
-    let ties = find_ties(sizes, weights, white);
-    let count = ties.count;
-    let t = pick(ties, draw);
-    answer_at(sizes, weights, white, least, count, t)
-}
-
-// Whether each value is at most a bound.
-fn all_at_most(values: &[u64], most: u64) -> bool
-    ensures { result ≡ at_most most values.now }
-{
-    let mut i: usize = 0;
-    while i < values.len() {
-        if most < values[i] {
-            return false;
-        }
-        i += 1;
-    }
-    true
+    fill(partials, table);
+    visit(partials, 0, target, 0, 1, table);
+    let searched = Searched { partials, table };
+    let tied = searched.tied();
+    let t = searched.pick(tied, draw);
+    searched.answer_at(tied, t)
 }
 
 // Whether the areas are as few, and their sizes and weights as small, as a map's partial areas that are not refused.
-fn in_limits(sizes: &[u64], weights: &[u64]) -> bool
-    ensures { result ≡ in_limits sizes.now weights.now }
+fn in_limits(partials: &[Partial]) -> bool
+    ensures { result ≡ in_limits (sizes partials.now) (weights partials.now) }
 {
-    if 20 < sizes.len() {
-        return false;
-    }
-    if weights.len() != sizes.len() {
-        return false;
-    }
-    if !all_at_most(sizes, 262140000000000) {
-        return false;
-    }
-    all_at_most(weights, 65535)
+    partials.len() <= 20
+        && partials
+            .iter()
+            .all(|p| p.size.0 <= 262140000000000 && p.weight <= 65535)
 }
 
-// The answer for the partial areas, with tables of its own; all fields are 0 where the areas are not within the limits.
-pub fn propose(sizes: &[u64], weights: &[u64], target: u64, draw: u32) -> Answer
-    ensures { result ≡ cond (in_limits sizes.now weights.now)
-        (propose target sizes.now weights.now draw) no_answer }
+// The answer for the partial areas, with a table of its own; none where the areas are not within the limits.
+pub fn propose(partials: &[Partial], target: Weighted, draw: u32) -> Option<Answer>
+    ensures { result ≡ cond (in_limits (sizes partials.now) (weights partials.now))
+        (Some (propose target.0 (sizes partials.now) (weights partials.now) draw)) None }
 {
-    if !in_limits(sizes, weights) {
-        return Answer {
-            kind: 0,
-            white: 0,
-            tied: 0,
-            entry: 0,
-            number: 0,
-        };
+    if !in_limits(partials) {
+        return None;
     }
-    let mut white = [0u64; 21];
-    let mut least = [0u32; 21];
-    let n = sizes.len() + 1;
-    propose_over(
-        sizes,
-        weights,
-        target,
-        draw,
-        &mut white[..n],
-        &mut least[..n],
-    )
+    let mut table = [Held { white: 0, set: 0 }; 21];
+    let n = partials.len() + 1;
+    Some(propose_over(partials, target.0, draw, &mut table[..n]))
 }

@@ -4,11 +4,11 @@ use mathlib.Core.Path.{◌≡◌, refl, sym, ap, ◌∙◌}
 use mathlib.Core.Bool.{Bool, true, false, cond, not, ◌&&◌, ◌||◌}
 use mathlib.Core.List.{List}
 use native.Mathlib.Omega.{arith}
-use lib.ListN.{get_or}
+use lib.ListN.{length, get_or}
 use lib.Dec.{leb, eqb}
 use borrow.Author.Tests.{eqb-true, eqb-false, le-leb, eq-eqb, ne_eqb}
 use Rattle.lists.proofs.Tests.{by-test, not-both}
-use Rattle.subset.specs.Table.{reach, member, greatest_of, chosen, entry, renewed, Topmost}
+use Rattle.subset.specs.Table.{weight, reach, member, greatest_of, chosen, entry, renewed, Room, Enough, Topmost, Readable}
 use Rattle.subset.proofs.ReachLaws.{reach-new, new-pays, reach-more, reach-stay, reach-zero, greatest-is}
 use Rattle.subset.proofs.ReachLaws.{member-old, member-new, member-stay}
 
@@ -123,3 +123,24 @@ enough-chosen w n k slack some enough i = by-test (eqb k n)
     let a = greatest-is w k slack slack (omega arith) r (λ s q z. absurd (omega arith)) in
     let b = greatest-is w n slack slack (omega arith) q (λ s q z. absurd (omega arith)) in
     rw (← a, ← b) (sym (rw m at (member-stay w k (n - k) slack i r))))
+
+-- what the fill and the search for the greatest sum leave: that sum can be read back, and its set is the chosen one
+pub found : {N : ℕ} {mask people : List ℕ} {n slack k r : ℕ} {table filled : List ℕ} → 0 < N
+    → Room N (length mask) (length people) n slack (length table) → Enough N (weight mask people) n k slack table filled
+    → length filled ≡ length table → Topmost N slack filled r
+    → Readable N mask people k filled r × ((i : ℕ) → member (weight mask people) k r i ≡ chosen (weight mask people) n slack i)
+found {N} {mask} {people} {n} {slack} {k} {r} {table} {filled} pos room e same top =
+    let some = e.some in
+    let within = top.within in
+    let few = room.few in
+    let bytes = room.bytes in
+    let counts = room.counts in
+    let entries = room.entries in
+    let is = topmost-is N (weight mask people) pos k slack r filled (omega arith) e.filled.entries top in (
+      record {
+        room = record { entries = omega arith; few = omega arith; bytes = omega arith; counts = omega arith };
+        reached = is.0;
+        entries = λ s h. e.filled.entries s (omega arith);
+      },
+      λ i. rw (is.1) (enough-chosen (weight mask people) n k slack some e.enough i),
+    )

@@ -195,9 +195,6 @@ left-out-chosen mask people n slack =
 -- ---- what `leave_out` does
 
 module _ (people : List ℕ) (n slack : ℕ) (mask table : List ℕ) where
-  pub touches-nothing : roomy (length mask) (length people) n slack (length table) ≡ false → LeavesOut people n slack mask mask table table
-  touches-nothing h = record { bytes = λ i. rw h; unused = λ s k. refl }
-
   pub strikes-chosen : (after entries : List ℕ) → roomy (length mask) (length people) n slack (length table) ≡ true
       → Struck (chosen (weight mask people) n slack) mask after → ((s : ℕ) → slack < s → get_or entries s 0 ≡ get_or table s 0)
       → LeavesOut people n slack mask after table entries

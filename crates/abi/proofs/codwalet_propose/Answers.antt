@@ -1,8 +1,9 @@
 -- `abi::codwalet_propose`: the proposal in numbers. Assumes nothing.
-use Rattle.abi.proofs.FlatLaws.{flat-answers}
+use Rattle.abi.proofs.FlatLaws.{flat-refused, flat-answers}
 use Rattle.abi.proofs.codwalet_propose.Goals as goal
 
-pub returns : goal.returns
-returns c =
-    flat-answers c.propose-p.ensures c.refusal.ensures c.kind.ensures
-    c.given_to.ensures
+pub returns-in-Err : goal.returns-in-Err
+returns-in-Err c = flat-refused c.in-Err.ensures c.from.ensures
+
+pub returns-in-Ok : goal.returns-in-Ok
+returns-in-Ok c = flat-answers c.in-Ok.ensures c.from-in-Ok.ensures c.given_to.ensures

@@ -1,58 +1,41 @@
--- `coverage::blocks` meets its contract: by what is found of the area under the boxes. Assumes nothing.
-use Prim.Native.Nat.{◌*◌}
-use mathlib.Core.Path.{sym, ap, ◌∙◌, subst}
-use native.Mathlib.Omega.{arith}
-use lib.ListN.{take}
-use Rattle.map.specs.Format.{Area, read_map}
-use Rattle.map.specs.Answers.{counted_area, sought_means}
+-- `coverage::blocks` meets its contract: by what is found of the area. Assumes nothing.
+use Rattle.std.proofs.Common.{sym, ap, ◌∙◌, Ok, subst}
+use Rattle.std.proofs.lemmas.Result.{err_from_is_err_and}
+use Rattle.map.specs.Format.{read_map}
+use Rattle.map.specs.Answers.{sought_means}
 use Rattle.map.proofs.Accepted.{sought-up}
 use Rattle.register.specs.Licences.{in_force}
-use Rattle.coverage.specs.declared.AreaBlocks.{AreaBlocks}
 use Rattle.coverage.specs.Cover.{holding_of}
 use Rattle.coverage.specs.Blocks.{blocks_of}
 use Rattle.coverage.specs.Answers.{answers, no_blocks, blocks_at}
 use Rattle.coverage.specs.Limits.{Limits}
 use Rattle.coverage.proofs.BlockLaws.{limits_of, blocks-exact}
-use Rattle.coverage.proofs.CoverLaws.{edges-size, holding-handed}
-use Rattle.coverage.proofs.LookLaws.{made-refused, made-lacking, made_of}
+use Rattle.coverage.proofs.LookLaws.{made, made-is}
 use Rattle.coverage.proofs.blocks.Goals as goal
 
-pub slice_bounds-find-end : goal.slice_bounds-find-end
-slice_bounds-find-end c = sym (edges-size c.boxes-boxes.ensures)
-
-pub find-requires : goal.find-requires
-find-requires c =
-    let d = c.boxes-boxes.ensures in
-    omega (arith, edges-size d, d.counts.few)
-
-pub returns-in-Refused : goal.returns-in-Refused
+pub returns-in_err-find_holding : goal.returns-in_err-find_holding
 unfolding blocks_at
-returns-in-Refused c =
+returns-in_err-find_holding c =
     let a = c.args in
-    let b = c.boxes-boxes.result in
-    let made : Area → AreaBlocks = λ x. blocks_of (holding_of (in_force a.register.places) x) in
-    made-refused a.number no_blocks made (counted_area (take (4 * b.count) b.edges) b.widths) (read_map a.map.now)
-    (sym (ap sought_means c.in-Refused.is) ∙ c.find.ensures)
+    let p = err_from_is_err_and c.from_residual.result c.from_residual.ensures.1 in
+    rw (p.1, p.2)
+    (ap (made no_blocks blocks_of) c.in_err-find_holding.ensures
+    ∙ made-is a.number no_blocks blocks_of (holding_of (in_force a.register.places)) (read_map a.map.now))
 
-pub returns-in-Lacking : goal.returns-in-Lacking
+pub returns-in-None : goal.returns-in-None
 unfolding blocks_at
-returns-in-Lacking c =
+returns-in-None c =
     let a = c.args in
-    let b = c.boxes-boxes.result in
-    let made : Area → AreaBlocks = λ x. blocks_of (holding_of (in_force a.register.places) x) in
-    made-lacking a.number no_blocks made (counted_area (take (4 * b.count) b.edges) b.widths) (read_map a.map.now)
-    (sym (ap sought_means c.in-Lacking.is) ∙ c.find.ensures)
+    ap (made no_blocks blocks_of) (sym (ap (λ o. sought_means (Ok o)) c.in-None.is) ∙ c.in_ok-find_holding.ensures)
+    ∙ made-is a.number no_blocks blocks_of (holding_of (in_force a.register.places)) (read_map a.map.now)
 
-pub returns-in-At : goal.returns-in-At
+pub returns-in-Some : goal.returns-in-Some
 unfolding blocks_at
-returns-in-At c =
+returns-in-Some c =
     let a = c.args in
-    let b = c.boxes-boxes.result in
     let ls = in_force a.register.places in
-    let edges = take (4 * b.count) b.edges in
-    let made : Area → AreaBlocks = λ x. blocks_of (holding_of ls x) in
-    let l = sought-up (counted_area edges b.widths) a.map.now a.number c.in-At.a (sym (ap sought_means c.in-At.is) ∙ c.find.ensures) in
-    let st = l.stands in
-    let is = holding-handed c.boxes-boxes.ensures st.holds st.handed c.holding_of.ensures in
-    ap answers (blocks-exact (subst Limits (sym is) (limits_of ls st.area st.holds)) c.blocks_of.ensures ∙ ap blocks_of is)
-    ∙ made_of a.number no_blocks made (counted_area edges b.widths) l
+    let found = sym (ap (λ o. sought_means (Ok o)) c.in-Some.is) ∙ c.in_ok-find_holding.ensures in
+    let st = (sought-up (holding_of ls) a.map.now a.number c.in-Some.h found).stands in
+    ap answers (blocks-exact (subst Limits (sym st.handed) (limits_of ls st.area st.holds)) c.blocks-in-Some.ensures)
+    ∙ ap (made no_blocks blocks_of) found
+    ∙ made-is a.number no_blocks blocks_of (holding_of ls) (read_map a.map.now)

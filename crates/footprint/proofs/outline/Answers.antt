@@ -1,16 +1,16 @@
 -- `footprint::outline`: the cells laid out by place and the rounds over them give the footprint of the area. Assumes nothing.
 use Prim.Native.Nat.{ℕ, ◌*◌, ◌<◌}
 use mathlib.Core.Path.{◌≡◌, refl, subst}
-use native.Mathlib.Omega.{arith}
-use native.Mathlib.Nat.{mul-le-mul}
-use lib.ListN.{length, take, replicate, length-replicate}
+use lib.ListN.{length, replicate, length-replicate}
+use Rattle.std.proofs.lemmas.Result.{err_from_is_err_and}
+use Rattle.boxes.specs.Boxes.{edges_of}
 use Rattle.map.specs.declared.Area as handed
 use Rattle.register.specs.Licences.{in_force}
-use Rattle.coverage.proofs.CoverLaws.{naming-is, edges-size, covered-some}
+use Rattle.coverage.proofs.CoverLaws.{naming-is, covered-some}
 use Rattle.map.specs.Format.{Area}
 use Rattle.map.specs.Answers.{summary}
 use Rattle.map.specs.Accepted.{AreaHolds}
-use Rattle.rounds.specs.declared.Answer.{Answer}
+use Rattle.rounds.specs.Promises.{Answer}
 use Rattle.footprint.specs.Footprint.{part_area, covered_cells, footprint_of}
 use Rattle.footprint.specs.Code.{Buffers, Comes, Fits, told_by}
 use Rattle.footprint.proofs.OutlineLaws.{Outlined, outlined-by, too_short}
@@ -29,21 +29,6 @@ returns-then-mask-a c =
     too_short (in_force c.args.register.places) c.args.share.0 a b
     (subst (λ (x : handed.Area). length c.args.mask.now < x.rows * x.columns) e c.if-mask-a.true) refl refl)
 
-pub lay_out-requires : goal.lay_out-requires
-lay_out-requires c =
-    let p = c.requires in
-    let few = mul-le-mul p.rows p.columns in
-    let boxes = c.boxes-boxes.ensures in (
-      p.reads,
-      omega (arith, p.columns),
-      omega (arith, p.rows),
-      c.naming-always.ensures.few,
-      omega (arith, edges-size boxes, boxes.counts.few),
-      omega (arith, few, length-replicate {A = ℕ} 16384 0),
-      omega (arith, few, length-replicate {A = ℕ} 16384 0),
-      c.if-mask-a.false,
-    )
-
 abbrev buffers : After-make → Buffers
 buffers c = record {
   mask = c.args.mask.now;
@@ -58,7 +43,7 @@ outlined c =
     let boxes = c.boxes-boxes in
     record {
       always = c.naming-always.result.licences;
-      edges = take (4 * boxes.result.count) boxes.result.edges;
+      edges = edges_of boxes.result;
       over = covered-some boxes.ensures c.args.a.number (naming-is c.naming-always.ensures);
       before = record { people = replicate 16384 0; cells = replicate 16384 0; mask = c.args.mask.now };
       after = record { people = laid.new.people; cells = laid.new.cells; mask = laid.new.mask };
@@ -86,17 +71,13 @@ given : (c : After-make) (a : Area) → c.args.a ≡ summary a → AreaHolds c.a
 given c a e h f =
     outlined-by h (in_force c.args.register.places) c.args.share.0 f c.make.result (buffers c) c.args.a e (outlined c)
 
-pub returns-in-Done : goal.returns-in-Done
-returns-in-Done c =
-    let m = (goal.at.returns-in-Done c).After-make in
-    λ a e h f. subst (Given m a) c.in-Done.is (given m a e h f)
+pub returns-in_err-make : goal.returns-in_err-make
+returns-in_err-make c =
+    let m = (goal.at.returns-in_err-make c).After-make in
+    let p = err_from_is_err_and c.from_residual.result c.from_residual.ensures.1 in
+    λ a e h f. rw (p.1, p.2) (subst (Given m a) c.in_err-make.was (given m a e h f))
 
-pub returns-in-Short : goal.returns-in-Short
-returns-in-Short c =
-    let m = (goal.at.returns-in-Short c).After-make in
-    λ a e h f. subst (Given m a) c.in-Short.is (given m a e h f)
-
-pub returns-in-Outside : goal.returns-in-Outside
-returns-in-Outside c =
-    let m = (goal.at.returns-in-Outside c).After-make in
-    λ a e h f. subst (Given m a) c.in-Outside.is (given m a e h f)
+pub returns : goal.returns
+returns c =
+    let m = (goal.at.returns c).After-make in
+    λ a e h f. subst (Given m a) c.in_ok-make.was (given m a e h f)

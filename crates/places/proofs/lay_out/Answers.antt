@@ -19,29 +19,29 @@ small :
     → r < rows → columns ≤ 256 → rows ≤ 256 → at + columns ≤ 65536
 small l h a b = omega (arith, row_fits l h, mul-le-mul b a)
 
-pub loop-i-init : goal.loop-i-init
-loop-i-init c = rows_start c.requires.0
+pub loop-init : goal.loop-init
+loop-init c = rows_start c.requires.0
 
 pub lay_row-from-requires : goal.lay_row-from-requires
 lay_row-from-requires c =
-    let l = c.loop-i in
+    let l = c.loop in
     let p = c.requires in
-    let h = c.loop-i-test.true in
-    let r = part_room l.invariant h (record { people = p.5; cells = p.6; mask = p.7 }) in
-    (row-good l.invariant h, p.1, p.3, p.4, r.people, r.cells, r.mask)
+    let h = c.loop-test.true in
+    let r = part_room l.invariant h (record { people = p.3; cells = p.4; mask = p.5 }) in
+    (row-good l.invariant h, p.1, r.people, r.cells, r.mask)
 
 pub overflow_add-at : goal.overflow_add-at
 overflow_add-at c =
     let p = c.requires in
-    record { fits = omega (arith, small c.loop-i.invariant c.loop-i-test.true p.1 p.2) }
+    record { fits = omega (arith, small c.loop.invariant c.loop-test.true p.1 p.2) }
 
-pub loop-i-preserved : goal.loop-i-preserved
-loop-i-preserved c =
+pub loop-preserved : goal.loop-preserved
+loop-preserved c =
     let p = c.requires in
     let z = c.lay_row-from in
-    rows-turn c.loop-i.invariant (record { people = z.new.people; cells = z.new.cells; mask = z.new.mask }) c.loop-i-test.true
-    (record { people = p.5; cells = p.6; mask = p.7 })
+    rows-turn c.loop.invariant (record { people = z.new.people; cells = z.new.cells; mask = z.new.mask }) c.loop-test.true
+    (record { people = p.3; cells = p.4; mask = p.5 })
     (record { people = z.auto.people; cells = z.auto.cells; mask = z.auto.mask }) z.ensures
 
 pub returns : goal.returns
-returns c = rows_end c.loop-i.invariant c.loop-i-test.false
+returns c = rows_end c.loop.invariant c.loop-test.false

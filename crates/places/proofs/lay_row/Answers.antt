@@ -14,8 +14,8 @@ loop-j-init c = row-starts c.requires.0
 pub loop-j-preserved : goal.loop-j-preserved
 loop-j-preserved c =
     let p = c.requires in
-    place-turns c.loop-j.invariant c.show-p.result c.loop-j-test.true
-    (record { people = p.4; cells = p.5; mask = p.6 }) c.show-p.ensures
+    place-turns c.loop-j.invariant c.show-after.result.0 c.show-after.result.1 c.loop-j-test.true
+    (record { people = p.2; cells = p.3; mask = p.4 }) c.show-after.ensures
 
 pub returns : goal.returns
 returns c = place-ends c.loop-j.invariant c.loop-j-test.false

@@ -1,23 +1,24 @@
 -- `proposal::propose`: by whether the map is accepted. Assumes nothing.
-use mathlib.Core.Path.{refl}
+use Rattle.std.proofs.Common.{subst, sym}
+use Rattle.std.proofs.lemmas.Result.{err_from_is_err_and}
+use Rattle.map.specs.Format.{read_map}
 use Rattle.register.specs.Licences.{in_force}
+use Rattle.proposal.specs.Code.{Bounded}
 use Rattle.proposal.proofs.MapLaws.{on-refused, bounded, on-accepted}
 use Rattle.proposal.proofs.propose.Goals as goal
+
+pub returns-in_err-held : goal.returns-in_err-held
+returns-in_err-held c =
+    let a = c.args in
+    let p = err_from_is_err_and c.from_residual.result c.from_residual.ensures.1 in
+    rw (p.1, p.2) (on-refused (in_force a.register.places) a.draw (read_map a.map.now) _ c.in_err-held.ensures)
 
 pub propose_from-requires : goal.propose_from-requires
 propose_from-requires c =
     let a = c.args in
-    bounded a.map.now (in_force a.register.places) c.holdings_in-held.result c.holdings_in-held.ensures
-    c.in-Accepted.is
+    subst Bounded (sym c.areas.ensures) (bounded a.map.now (in_force a.register.places) c.in_ok-held.ensures)
 
-pub returns-in-Refused : goal.returns-in-Refused
-returns-in-Refused c =
+pub returns : goal.returns
+returns c =
     let a = c.args in
-    on-refused a.map.now (in_force a.register.places) c.holdings_in-held.result c.holdings_in-held.ensures
-    _ c.in-Refused.is a.draw c.refused.result (c.refused.ensures refl)
-
-pub returns-in-Accepted : goal.returns-in-Accepted
-returns-in-Accepted c =
-    let a = c.args in
-    on-accepted a.map.now (in_force a.register.places) c.holdings_in-held.result c.holdings_in-held.ensures
-    c.in-Accepted.is a.draw c.propose_from.result c.propose_from.ensures
+    on-accepted a.map.now (in_force a.register.places) c.in_ok-held.ensures c.areas.ensures a.draw _ c.propose_from.ensures

@@ -1,52 +1,19 @@
--- `ring::form`: the first pass marks the ring, or the second if the first marks nothing growing. Assumes nothing.
-use mathlib.Core.Path.{sym, ◌∙◌}
+-- `ring::form`: growing, no cell neighbours the set. Assumes nothing.
+use mathlib.Core.Path.{◌≡◌, sym, ◌∙◌}
+use mathlib.Core.Bool.{true}
 use Prim.Native.Nat.{◌*◌}
-use Rattle.ring.specs.Ring.{shown}
-use Rattle.ring.proofs.MarkLaws.{ring-found, ring-shrunk, ring-second}
+use lib.ListN.{length}
+use Rattle.ring.specs.Ring.{shown, fits}
+use Rattle.ring.proofs.MarkLaws.{ring_second}
 use Rattle.ring.proofs.form.Goals as goal
 
-pub returns-then-not-fits : goal.returns-then-not-fits
-returns-then-not-fits c = λ i. rw (sym c.fits.ensures ∙ c.if-not-fits.true)
-
-pub returns-then-not-fits-2 : goal.returns-then-not-fits-2
-returns-then-not-fits-2 c =
-    λ i. rw (
-      sym c.fits.ensures ∙ c.if-not-fits.false,
-      sym c.fits-2.ensures ∙ c.if-not-fits-2.true,
-    )
-
-pub mark_rows-found-requires : goal.mark_rows-found-requires
-mark_rows-found-requires c = (
-  sym c.fits.ensures ∙ c.if-not-fits.false,
-  sym c.fits-2.ensures ∙ c.if-not-fits-2.false,
-)
-
-pub returns-then-found : goal.returns-then-found
-returns-then-found c =
+pub returns-then-not-mark_rows : goal.returns-then-not-mark_rows
+returns-then-not-mark_rows c =
     let a = c.args in
-    let m = c.mark_rows-found in
-    λ i. rw (sym c.fits.ensures ∙ c.if-not-fits.false, sym c.fits-2.ensures ∙ c.if-not-fits-2.false)
-    (ring-found a.grow (shown a.cells.now) (a.rows * a.columns) a.columns a.mask.now m.new.mask
-    m.ensures.1 (sym m.ensures.0 ∙ c.if-found.true) i)
-
-pub mark_rows-requires : goal.mark_rows-requires
-mark_rows-requires c =
-    (rw c.mark_rows-found.auto.mask (sym c.fits.ensures ∙ c.if-not-fits.false), sym c.fits-2.ensures ∙ c.if-not-fits-2.false)
-
-pub returns-then-grow : goal.returns-then-grow
-returns-then-grow c =
-    let a = c.args in
-    let m = c.mark_rows-found in
-    let z = c.mark_rows in
-    λ i. rw (sym c.fits.ensures ∙ c.if-not-fits.false, sym c.fits-2.ensures ∙ c.if-not-fits-2.false)
-    (ring-second a.grow (shown a.cells.now) (a.rows * a.columns) a.columns a.mask.now m.new.mask
-    m.ensures.1 c.if-grow.true
-    (sym m.ensures.0 ∙ c.if-found.false) z.new.mask z.ensures.1 i)
-
-pub returns-else-grow : goal.returns-else-grow
-returns-else-grow c =
-    let a = c.args in
-    let m = c.mark_rows-found in
-    λ i. rw (sym c.fits.ensures ∙ c.if-not-fits.false, sym c.fits-2.ensures ∙ c.if-not-fits-2.false)
-    (ring-shrunk a.grow (shown a.cells.now) (a.rows * a.columns) a.columns a.mask.now m.new.mask
-    m.ensures.1 c.if-grow.false i)
+    let first = c.mark_rows-else-not-grow in
+    let second = c.mark_rows-then-not-mark_rows in
+    let masked : fits a.grid.rows a.grid.columns (length a.mask.now) ≡ true = sym c.fits.ensures ∙ c.if-not-fits.false in
+    let celled : fits a.grid.rows a.grid.columns (length a.cells.now) ≡ true = sym c.fits-else-not-fits.ensures ∙ c.if-not-fits-2.false in
+    λ i. rw (masked, celled, c.if-not-grow.false)
+    (ring_second (shown a.cells.now) (a.grid.rows * a.grid.columns) a.grid.columns a.mask.now first.new.mask second.new.mask
+    first.ensures.bytes (sym first.ensures.told ∙ c.if-not-mark_rows.true) second.ensures.bytes i)

@@ -1,77 +1,70 @@
 -- `ring::mark_rows`: each turn reads a row's marks and lends the row writer the part from the row's start on. Assumes nothing.
-use Prim.Native.Nat.{◌*◌}
+use Prim.Native.Nat.{ℕ, ◌+◌, ◌*◌, ◌≤◌}
+use mathlib.Core.Path.{◌≡◌, refl, sym, ◌∙◌}
+use mathlib.Core.Bool.{Bool, false}
+use mathlib.Core.List.{List}
 use native.Mathlib.Omega.{arith}
-use lib.ListN.{length}
+use native.Mathlib.Nat.{zero-mul}
+use lib.ListN.{length, take}
+use lib.Seq.{length-take-le, get_or-take}
 use Rattle.lists.proofs.InPlace.{part_room}
-use Rattle.ring.specs.Code.{Row}
-use Rattle.ring.proofs.RingLaws.{fits_in, few-places}
-use Rattle.ring.proofs.MarkLaws.{row_of, any-now, any-still, pass-start, pass-turn, pass-end}
-use Rattle.ring.proofs.mark_rows.Goals.{In-loop-r, then-some, else-some}
+use Rattle.ring.proofs.RingLaws.{Sizes, fits_in, few-places}
+use Rattle.ring.proofs.MarkLaws.{mark-past, marks-start, marks-end, row-room, pass-row}
+use Rattle.ring.proofs.mark_rows.Goals.{In-loop-r}
 use Rattle.ring.proofs.mark_rows.Goals as goal
 
--- the row of a turn
-row_at : (c : In-loop-r) →
-    let a = c.args in
-    let l = c.loop-r in
-    Row (a.rows * a.columns) a.columns l.at (length l.mask)
-row_at c =
-    let a = c.args in
-    let l = c.loop-r in
-    row_of a.rows a.columns l.at l.r a.mask.now l.mask (fits_in a.rows a.columns (length a.mask.now) c.requires.0)
-    l.invariant.marks.written.kept l.invariant.here c.loop-r-test.true
+sizes : (c : In-loop-r) → Sizes c.args.grid.rows c.args.grid.columns (length c.args.mask.now)
+sizes c = fits_in _ _ _ c.requires.masked
 
-pub overflow_mul-n : goal.overflow_mul-n
-overflow_mul-n c =
-    let a = c.args in
-    omega (arith, few-places a.rows a.columns _ (fits_in a.rows a.columns (length a.mask.now) c.requires.0))
+-- the row of a turn lies in the mask
+room : (c : In-loop-r) → c.loop-r.r * c.args.grid.columns + c.args.grid.columns ≤ length c.args.mask.now
+room c = row-room c.args.grid.rows c.args.grid.columns c.loop-r.r (sizes c).long c.loop-r-test.true
+
+-- the marks of a row of so many columns
+wide : (marks : List Bool) {columns : ℕ} → columns ≤ 256 → length marks ≡ 256 → length (take columns marks) ≡ columns
+wide marks {columns} narrow room = length-take-le columns marks (omega arith)
 
 pub loop-r-init : goal.loop-r-init
-loop-r-init c = let a = c.args in pass-start a.grow a.near a.cells.now a.mask.now a.rows a.columns
+loop-r-init c = rw (zero-mul c.args.grid.columns) (marks-start _ c.args.mask.now)
 
-pub row_marks-marks-requires : goal.row_marks-marks-requires
-row_marks-marks-requires c =
-    let a = c.args in
-    (row_at (goal.at.row_marks-marks-requires c).In-loop-r, (fits_in a.rows a.columns (length a.cells.now) c.requires.1).long)
+pub overflow_mul-start : goal.overflow_mul-start
+overflow_mul-start c =
+    let l = (goal.at.overflow_mul-start c).In-loop-r in
+    omega (arith, room l, few-places _ _ _ (sizes l))
 
-pub slice_bounds-put_row-count : goal.slice_bounds-put_row-count
-slice_bounds-put_row-count c =
-    let w = row_at (goal.at.slice_bounds-put_row-count c).In-loop-r in
-    omega (arith, w.long, w.room)
+pub slice_bounds-mark_row-count : goal.slice_bounds-mark_row-count
+slice_bounds-mark_row-count c = omega (arith, room (goal.at.slice_bounds-mark_row-count c).In-loop-r)
 
-pub slice_bounds-put_row-start : goal.slice_bounds-put_row-start
-slice_bounds-put_row-start c =
-    let w = row_at (goal.at.slice_bounds-put_row-start c).In-loop-r in
-    omega (arith, w.long, w.room)
+pub slice_bounds-mark_row-start : goal.slice_bounds-mark_row-start
+slice_bounds-mark_row-start c = omega (arith, room (goal.at.slice_bounds-mark_row-start c).In-loop-r)
 
-pub put_row-some-requires : goal.put_row-some-requires
-put_row-some-requires c =
-    let l = c.loop-r in
-    let w = row_at (goal.at.put_row-some-requires c).In-loop-r in
-    (part_room l.mask l.at c.args.columns (omega (arith, w.long, w.room)), w.narrow)
+pub slice_bounds-marks-end : goal.slice_bounds-marks-end
+slice_bounds-marks-end c =
+    omega (arith, c.row_marks-marks.ensures.room, (sizes (goal.at.slice_bounds-marks-end c).In-loop-r).narrow)
 
-pub overflow_add-at : goal.overflow_add-at
-overflow_add-at c =
-    let w = row_at (goal.at.overflow_add-at c).In-loop-r in
-    omega (arith, w.room, w.few)
+pub slice_bounds-mark_row-end-in-loop-r : goal.slice_bounds-mark_row-end-in-loop-r
+slice_bounds-mark_row-end-in-loop-r c =
+    let l = (goal.at.slice_bounds-mark_row-end-in-loop-r c).In-loop-r in
+    sym (wide c.row_marks-marks.result (sizes l).narrow c.row_marks-marks.ensures.room)
+
+pub mark_row-some-requires : goal.mark_row-some-requires
+mark_row-some-requires c =
+    let l = (goal.at.mark_row-some-requires c).In-loop-r in
+    rw (wide c.row_marks-marks.result (sizes l).narrow c.row_marks-marks.ensures.room)
+    (part_room c.loop-r.mask _ c.args.grid.columns (omega (arith, room l)))
 
 pub loop-r-preserved : goal.loop-r-preserved
 loop-r-preserved c =
     let a = c.args in
-    let l = c.loop-r in
+    let l = (goal.at.loop-r-preserved c).In-loop-r in
     let m = c.row_marks-marks in
-    let z = c.put_row-some in
-    pass-turn a.grow a.near a.cells.now a.mask.now a.rows a.columns l.invariant
-    (fits_in a.rows a.columns (length a.mask.now) c.requires.0).long c.loop-r-test.true
-    m.result z.new.part m.ensures z.auto.part z.ensures.1 z.ensures.0
-    (elim c.if-some.branch [
-      | then-some w ↦ any-now l.any w.if-some.true w.any-is
-      | else-some w ↦ any-still w.if-some.false w.any-is
-    ])
+    let z = c.mark_row-some in
+    pass-row a.pass a.cells.now a.grid.rows a.grid.columns c.loop-r.invariant (sizes l).long c.loop-r-test.true
+    _ z.new.part (wide m.result (sizes l).narrow m.ensures.room)
+    (λ j h. get_or-take a.grid.columns m.result j false h ∙ m.ensures.told j h) z.auto.part z.ensures.bytes z.ensures.told refl
 
-pub shape_of-mask : goal.shape_of-mask
-shape_of-mask c = c.loop-r.invariant.marks.written.kept
-
-pub returns : goal.returns
-returns c =
+pub returns-clause-bytes : goal.returns-clause-bytes
+returns-clause-bytes c =
     let a = c.args in
-    pass-end a.grow a.near a.cells.now a.mask.now a.rows a.columns c.loop-r.invariant c.loop-r-test.false
+    let q : c.loop-r.r ≡ a.grid.rows = omega arith in
+    (marks-end _ c.loop-r.invariant (a.grid.rows * a.grid.columns) (rw q) (mark-past a.pass _ _ _ _)).1

@@ -1,10 +1,7 @@
--- `ring::mark_rows`: each turn reads a row's marks and lends the row writer the part from the row's start on. Assumes nothing.
-use Prim.Native.Nat.{◌-◌}
-use Rattle.ring.proofs.MarkLaws.{Pass}
+-- `ring::mark_rows`: the rows before row r are marked. Assumes nothing.
+use Prim.Native.Nat.{◌*◌}
+use Rattle.ring.proofs.MarkLaws.{Passed}
 use Rattle.ring.proofs.mark_rows.Given as goal
 
 abbrev pub invariant-loop-r : goal.invariant-loop-r
-invariant-loop-r l = Pass l.grow l.near l.cells l.initial.mask l.rows l.columns l.mask l.any l.at l.r
-
-abbrev pub decreases-loop-r : goal.decreases-loop-r
-decreases-loop-r l = l.rows - l.r
+invariant-loop-r l = Passed l.pass l.cells l.fn.mask l.mask l.grid.rows l.grid.columns l.any (l.r * l.grid.columns)

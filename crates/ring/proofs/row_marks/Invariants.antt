@@ -1,13 +1,14 @@
--- `ring::row_marks`: each turn puts 1 where the place is to be marked. Assumes nothing.
-use Prim.Native.Nat.{◌+◌, ◌-◌, ◌≤◌}
+-- `ring::row_marks`: the places before column c are told. Assumes nothing.
+use Prim.Native.Nat.{◌+◌, ◌*◌}
+use mathlib.Core.Bool.{false}
+use lib.ListN.{replicate}
+use Rattle.lists.proofs.InPlace.{Filled}
 use Rattle.ring.specs.Ring.{seen, shown}
-use Rattle.ring.specs.Code.{to_mark}
-use Rattle.ring.proofs.MarkLaws.{RowRead}
+use Rattle.ring.specs.Code.{grows, to_mark}
 use Rattle.ring.proofs.row_marks.Given as goal
 
 abbrev pub invariant-loop-c : goal.invariant-loop-c
 invariant-loop-c l =
-    (l.c ≤ l.columns) × RowRead (λ j. to_mark l.grow l.near (shown l.cells) (seen l.grow l.mask) l.n l.columns (l.at + j)) l.marks l.c
-
-abbrev pub decreases-loop-c : goal.decreases-loop-c
-decreases-loop-c l = l.columns - l.c
+    let n = l.grid.rows * l.grid.columns in
+    let places = to_mark l.pass (shown l.cells) (seen (grows l.pass) l.mask) n l.grid.columns in
+    Filled (λ j. places (l.r * l.grid.columns + j)) false (replicate 256 false) l.marks l.c

@@ -1,93 +1,76 @@
 -- `rounds::make`: the rounds end with the last set, and then the choice is made, or 8. Assumes nothing.
-use mathlib.Core.Path.{refl, sym, ◌∙◌}
-use native.Mathlib.Omega.{arith}
-use borrow.Author.Tests.{not-true, not-false}
+use Prim.Native.Nat.{ℕ}
+use mathlib.Core.Path.{◌≡◌, sym, ap, ◌∙◌}
+use lib.Dec.{ltb}
+use borrow.Author.Rules.{rules}
 use Rattle.lists.proofs.Tests.{not-both}
-use Rattle.ring.specs.Ring.{shown}
+use Rattle.ring.specs.Ring.{shown, fits}
 use Rattle.rounds.specs.Footprint.{value, growing}
-use Rattle.rounds.specs.Code.{people_with}
-use Rattle.rounds.proofs.LimitLaws.{within-limits, mask-countable, kept-fits, people-most}
+use Rattle.rounds.specs.Code.{Within, people_with}
+use Rattle.rounds.proofs.LimitLaws.{within-limits, countable, people-most}
 use Rattle.rounds.proofs.MakeLaws.{made-exact, last-small, last-most, last-over, slack-is, made-last}
+use Rattle.rounds.proofs.make.Goals.{Else-not-allows}
 use Rattle.rounds.proofs.make.Goals as goal
 
-pub returns-then-not-in_limits : goal.returns-then-not-in_limits
-returns-then-not-in_limits c = record {
-  inside = λ t. not-both t (sym c.in_limits.ensures ∙ c.if-not-in_limits.true);
-  outside = λ t. (refl, refl, refl);
-}
-
-pub overflow_mul-rows : goal.overflow_mul-rows
-overflow_mul-rows c =
+-- the limits, each by itself
+within : (c : Else-not-allows) →
     let a = c.args in
-    let w = within-limits a.rows a.columns a.weight a.share.0 a.mask.now a.cells.now a.people.now
-    (sym c.in_limits.ensures ∙ c.if-not-in_limits.false) in
-    omega (arith, w.numbered)
-
-pub sum_of-start-requires : goal.sum_of-start-requires
-sum_of-start-requires c =
+    Within a.area.grid.rows a.area.grid.columns a.area.weight a.share.0 a.mask.now a.area.cells.now a.area.people.now
+within c =
     let a = c.args in
-    let w = within-limits a.rows a.columns a.weight a.share.0 a.mask.now a.cells.now a.people.now
-    (sym c.in_limits.ensures ∙ c.if-not-in_limits.false) in
-    mask-countable w
+    within-limits a.area.grid.rows a.area.grid.columns a.area.weight a.share.0 a.mask.now a.area.cells.now a.area.people.now
+    (sym c.allows.ensures ∙ c.if-not-allows.false)
 
-pub value_of-v-requires : goal.value_of-v-requires
+pub people_of-start-requires : goal.people_of-start-requires
+people_of-start-requires c =
+    let w = within (goal.at.people_of-start-requires c).Else-not-allows in
+    countable w.limits c.args.mask.now w.masked
+
+pub value-v-requires : goal.value-v-requires
 unfolding people_with
-value_of-v-requires c =
-    let a = c.args in
-    let w = within-limits a.rows a.columns a.weight a.share.0 a.mask.now a.cells.now a.people.now
-    (sym c.in_limits.ensures ∙ c.if-not-in_limits.false) in
-    (rw c.sum_of-start.ensures (people-most w (shown a.mask.now)), w.light)
+value-v-requires c =
+    let w = within (goal.at.value-v-requires c).Else-not-allows in
+    (rw c.people_of-start.ensures (people-most w.limits (shown c.args.mask.now)), w.limits.light)
 
-pub all_rounds-r-requires : goal.all_rounds-r-requires
+pub invariant_of-course : goal.invariant_of-course
+invariant_of-course c = record { within = (within (goal.at.invariant_of-course c).Else-not-allows).limits }
+
+pub rounds-requires-clause-within : goal.rounds-requires-clause-within
+rounds-requires-clause-within c = within (goal.at.rounds-requires-clause-within c).Else-not-allows
+
+pub rounds-requires-clause-grow_value : goal.rounds-requires-clause-grow_value
 unfolding growing value people_with
-all_rounds-r-requires c =
-    let a = c.args in
-    let w = within-limits a.rows a.columns a.weight a.share.0 a.mask.now a.cells.now a.people.now
-    (sym c.in_limits.ensures ∙ c.if-not-in_limits.false) in
-    let e = c.sum_of-start.ensures in
-    record { within = w; start_value = e; grow_value = rw (c.value_of-v.ensures, e) }
+rounds-requires-clause-grow_value c =
+    let l : c.lt-grow.result ≡ ltb c.value-v.result.0 c.args.share.0 = search rules in
+    l ∙ rw (c.value-v.ensures, c.people_of-start.ensures)
 
-pub returns-then-not-r : goal.returns-then-not-r
-returns-then-not-r c =
-    let a = c.args in
-    let w = within-limits a.rows a.columns a.weight a.share.0 a.mask.now a.cells.now a.people.now
-    (sym c.in_limits.ensures ∙ c.if-not-in_limits.false) in
-    let r = c.all_rounds-r in
+pub slack-requires : goal.slack-requires
+slack-requires c =
+    let w = within (goal.at.slack-requires c).Else-not-allows in
+    (last-most w c.in-Some.ensures, last-over w c.in-Some.ensures)
+
+pub finish-requires-clause-masked : goal.finish-requires-clause-masked
+finish-requires-clause-masked c =
+    let grid = c.args.area.grid in
+    ap (λ (s : ℕ). fits grid.rows grid.columns s) c.rounds.auto.mask ∙ (within (goal.at.finish-requires-clause-masked c).Else-not-allows).masked
+
+pub finish-requires-clause-marked : goal.finish-requires-clause-marked
+finish-requires-clause-marked c = last-small (within (goal.at.finish-requires-clause-marked c).Else-not-allows) c.in-Some.ensures
+
+pub returns-in-None : goal.returns-in-None
+returns-in-None c =
+    let w = within (goal.at.returns-in-None c).Else-not-allows in
     record {
-      inside = λ _. made-exact w r.ensures (not-true r.result.last c.if-not-r.true) a.table.now;
-      outside = λ f. not-both (sym c.in_limits.ensures ∙ c.if-not-in_limits.false) f;
+      inside = λ _. made-exact w c.in-None.ensures c.args.table.now;
+      outside = λ f. not-both (sym c.allows.ensures ∙ c.if-not-allows.false) f;
     }
 
-pub slack_of-slack-requires : goal.slack_of-slack-requires
-slack_of-slack-requires c =
-    let a = c.args in
-    let w = within-limits a.rows a.columns a.weight a.share.0 a.mask.now a.cells.now a.people.now
-    (sym c.in_limits.ensures ∙ c.if-not-in_limits.false) in
-    let r = c.all_rounds-r in
-    let l = not-false r.result.last c.if-not-r.false in
-    (last-most w r.ensures l, w.heavy, w.light, last-over w r.ensures l)
-
-pub finish-requires : goal.finish-requires
-finish-requires c =
-    let a = c.args in
-    let w = within-limits a.rows a.columns a.weight a.share.0 a.mask.now a.cells.now a.people.now
-    (sym c.in_limits.ensures ∙ c.if-not-in_limits.false) in
-    let r = c.all_rounds-r in
-    record {
-      mask_value = (kept-fits w r.new.mask r.auto.mask, w.numbered, w.counted);
-      by_index = (last-small w r.ensures (not-false r.result.last c.if-not-r.false), c.slack_of-slack.ensures.1);
-    }
-
-pub returns : goal.returns
-returns c =
-    let a = c.args in
-    let w = within-limits a.rows a.columns a.weight a.share.0 a.mask.now a.cells.now a.people.now
-    (sym c.in_limits.ensures ∙ c.if-not-in_limits.false) in
-    let r = c.all_rounds-r in
-    let l = not-false r.result.last c.if-not-r.false in
+pub returns-in-Some : goal.returns-in-Some
+returns-in-Some c =
+    let w = within (goal.at.returns-in-Some c).Else-not-allows in
     let d = c.finish in
-    let e = c.slack_of-slack.ensures.0 ∙ slack-is w r.ensures l in
+    let e = c.slack.ensures.0 ∙ slack-is w c.in-Some.ensures in
     record {
-      inside = λ _. made-last w r.ensures l d.result d.new.mask a.table.now d.new.table (rw e at d.ensures);
-      outside = λ f. not-both (sym c.in_limits.ensures ∙ c.if-not-in_limits.false) f;
+      inside = λ _. made-last w c.in-Some.ensures d.result d.new.mask c.args.table.now d.new.table (rw e at d.ensures);
+      outside = λ f. not-both (sym c.allows.ensures ∙ c.if-not-allows.false) f;
     }

@@ -4,4 +4,4 @@ use lib.ListN.{length}
 use Rattle.search.proofs.+visit.Given as goal
 
 abbrev pub decreases-visit : goal.decreases-visit
-decreases-visit l = length l.sizes.now - l.at
+decreases-visit l = length l.partials.now - l.at

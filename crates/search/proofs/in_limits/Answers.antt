@@ -1,28 +1,18 @@
 -- `search::in_limits`: the tests in turn are the definition's. Assumes nothing.
 use mathlib.Core.Path.{sym, ◌∙◌}
-use native.Mathlib.Omega.{arith}
-use Rattle.search.proofs.LimitLaws.{too_many, unpaired, too_large, by_weights}
+use borrow.Author.Tests.{lt-leb}
+use Rattle.std.proofs.Common.{rules, tests}
+use Rattle.std.proofs.lemmas.Iterator.{YieldsList-from_slice}
+use Rattle.std.proofs.lemmas.Iterator.Search.{all_from_yields_List}
+use Rattle.search.proofs.LimitLaws.{too_many, small, by_areas}
 use Rattle.search.proofs.in_limits.Goals as goal
 
-pub returns-then-sizes-gt20 : goal.returns-then-sizes-gt20
-returns-then-sizes-gt20 c =
-    let a = c.args in
-    too_many a.sizes.now a.weights.now (omega (arith, c.if-sizes-gt20.true))
+pub returns-then-partials-le20 : goal.returns-then-partials-le20
+returns-then-partials-le20 c =
+    let l = c.args.partials.now in
+    all_from_yields_List small _ _ _ c.all.ensures.ran (YieldsList-from_slice l cc) (λ x b q k. search (rules, tests))
+    ∙ by_areas l c.if-partials-le20.true
 
-pub returns-then-weights-sizes : goal.returns-then-weights-sizes
-returns-then-weights-sizes c =
-    let a = c.args in
-    unpaired a.sizes.now a.weights.now c.if-sizes-gt20.false c.if-weights-sizes.true
-
-pub returns-then-not-all_at_most : goal.returns-then-not-all_at_most
-returns-then-not-all_at_most c =
-    let a = c.args in
-    too_large a.sizes.now a.weights.now c.if-sizes-gt20.false c.if-weights-sizes.false
-    (sym c.all_at_most.ensures ∙ c.if-not-all_at_most.true)
-
-pub returns : goal.returns
-returns c =
-    let a = c.args in
-    c.all_at_most-2.ensures
-    ∙ by_weights a.sizes.now a.weights.now c.if-sizes-gt20.false c.if-weights-sizes.false
-    (sym c.all_at_most.ensures ∙ c.if-not-all_at_most.false)
+pub returns-else-partials-le20 : goal.returns-else-partials-le20
+returns-else-partials-le20 c =
+    lt-leb _ _ c.if-partials-le20.false ∙ sym (too_many c.args.partials.now c.if-partials-le20.false)

@@ -1,16 +1,15 @@
--- `subset::clear`: the entries above i are the mark for none, and i falls. Assumes nothing.
-use Rattle.subset.proofs.FillLaws.{clearing-starts, clearing-turns, clearing-ends}
+-- `subset::clear`: the part that is filled holds the mark for none. Assumes nothing.
+use Prim.Native.Nat.{◌+◌}
+use mathlib.Core.Path.{◌≡◌, refl}
+use native.Mathlib.Omega.{arith}
+use lib.ListN.{length, take}
+use lib.Seq.{length-take-le}
+use Rattle.subset.proofs.FillLaws.{cleared}
 use Rattle.subset.proofs.clear.Goals as goal
-
-pub loop-i-init : goal.loop-i-init
-loop-i-init c = clearing-starts 65535 c.args.slack c.args.table.now
-
-pub loop-i-preserved : goal.loop-i-preserved
-loop-i-preserved c =
-    let l = c.loop-i in
-    clearing-turns 65535 c.args.slack c.args.table.now l.table l.i l.invariant c.requires c.loop-i-test.true
 
 pub returns : goal.returns
 returns c =
-    let l = c.loop-i in
-    clearing-ends 65535 c.args.slack c.args.table.now l.table l.i l.invariant c.requires c.loop-i-test.false
+    let a = c.args in
+    let f = c.fill in
+    let size : length (take (a.slack + 1) a.table.now) ≡ a.slack + 1 = length-take-le (a.slack + 1) a.table.now (omega arith) in
+    cleared 65535 a.slack a.table.now f.new.self c.requires (omega arith) (λ s h. f.ensures.clones s 0 (omega arith) refl)

@@ -1,9 +1,6 @@
--- `subset::greatest`: the sums above s have no entry, and s falls. Assumes nothing.
-use Rattle.subset.proofs.FillLaws.{Seeking}
+-- `subset::greatest`: the sums from s on have no entry. Assumes nothing.
+use Rattle.std.proofs.Common.{ℕ, ◌≡◌, ◌≤◌, get_or}
 use Rattle.subset.proofs.greatest.Given as goal
 
 abbrev pub invariant-loop-s : goal.invariant-loop-s
-invariant-loop-s l = Seeking 65535 l.slack l.table l.s
-
-abbrev pub decreases-loop-s : goal.decreases-loop-s
-decreases-loop-s l = l.s
+invariant-loop-s l = (t : ℕ) → l.s ≤ t → t ≤ l.slack → get_or l.table t 0 ≡ 65535

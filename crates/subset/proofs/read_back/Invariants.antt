@@ -4,7 +4,7 @@ use Rattle.subset.specs.Table.{weight}
 use Rattle.subset.proofs.read_back.Given as goal
 
 abbrev pub invariant-loop-s : goal.invariant-loop-s
-invariant-loop-s l = Striking (weight l.initial.mask l.people) l.k l.sum l.initial.mask l.mask l.s
+invariant-loop-s l = Striking (weight l.fn.mask l.people) l.k l.sum l.fn.mask l.mask l.s
 
 abbrev pub decreases-loop-s : goal.decreases-loop-s
 decreases-loop-s l = l.s

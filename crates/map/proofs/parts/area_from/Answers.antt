@@ -1,38 +1,25 @@
 -- `map::parts::area_from`: the walk over the rows, then the limits of the population. Assumes nothing.
-use Rattle.std.proofs.Common.{sym, ap, ◌∙◌, arith}
-use Rattle.lists.proofs.Tests.{both, not_first, not-second}
+use Rattle.std.proofs.Common.{ap, ◌∙◌, rules}
+use Rattle.boxes.specs.Boxes.{edges_of}
+use Rattle.map.proofs.FieldLaws.{passed_on}
 use Rattle.map.proofs.AreaLaws.{body-bad, body-good, body-out}
-use Rattle.map.specs.Answers.{tally_means, head_of}
+use Rattle.map.specs.Answers.{area_means, head_of}
 use Rattle.map.proofs.parts.area_from.Goals as goal
 
-pub walk-requires : goal.walk-requires
-walk-requires c = let p = c.requires in (omega (arith, p), omega (arith, p), p.2)
-
-pub returns-then-not-at_most : goal.returns-then-not-at_most
-returns-then-not-at_most c =
+pub returns-in_err-counts : goal.returns-in_err-counts
+returns-in_err-counts c =
     let a = c.args in
-    let read = sym (ap tally_means c.in-Good.is) ∙ c.walk.ensures.0 in
-    let low = sym c.at_most.ensures ∙ c.if-not-at_most.true in
-    body-out a.s.now (head_of a.h) a.start a.edges.now a.widths.now read (not_first _ low)
+    ap area_means (passed_on c.from_residual.ensures.1)
+    ∙ body-bad a.s.now (head_of a.h) a.start (edges_of a.boxes.now) a.boxes.now.widths c.in_err-counts.ensures
 
-pub returns-then-not-at_most-2 : goal.returns-then-not-at_most-2
-returns-then-not-at_most-2 c =
+pub returns-then-not-contains : goal.returns-then-not-contains
+returns-then-not-contains c =
     let a = c.args in
-    let read = sym (ap tally_means c.in-Good.is) ∙ c.walk.ensures.0 in
-    let peopled = sym c.at_most.ensures ∙ c.if-not-at_most.false in
-    let high = sym c.at_most-in-Good.ensures ∙ c.if-not-at_most-2.true in
-    body-out a.s.now (head_of a.h) a.start a.edges.now a.widths.now read (not-second peopled high)
+    body-out a.s.now (head_of a.h) a.start (edges_of a.boxes.now) a.boxes.now.widths c.in_ok-counts.ensures
+    (search rules)
 
-pub returns-in-Bad : goal.returns-in-Bad
-returns-in-Bad c =
+pub returns : goal.returns
+returns c =
     let a = c.args in
-    body-bad a.s.now (head_of a.h) a.start a.edges.now a.widths.now
-    (sym (ap tally_means c.in-Bad.is) ∙ c.walk.ensures.0)
-
-pub returns-else-not-at_most-2 : goal.returns-else-not-at_most-2
-returns-else-not-at_most-2 c =
-    let a = c.args in
-    let read = sym (ap tally_means c.in-Good.is) ∙ c.walk.ensures.0 in
-    let peopled = sym c.at_most.ensures ∙ c.if-not-at_most.false in
-    let high = sym c.at_most-in-Good.ensures ∙ c.if-not-at_most-2.false in
-    body-good a.s.now (head_of a.h) a.start a.edges.now a.widths.now read (both peopled high)
+    body-good a.s.now (head_of a.h) a.start (edges_of a.boxes.now) a.boxes.now.widths c.in_ok-counts.ensures
+    (search rules)

@@ -1,10 +1,6 @@
 -- `map::parts::first_fault`: one cell a turn, up to the one with a fault. Assumes nothing.
-use Rattle.std.proofs.Common.{◌-◌}
 use Rattle.map.proofs.ShortLaws.{Left}
 use Rattle.map.proofs.parts.first_fault.Given as goal
 
-abbrev pub invariant-loop-k : goal.invariant-loop-k
-invariant-loop-k l = Left l.s l.n l.start l.k l.at
-
-abbrev pub decreases-loop-k : goal.decreases-loop-k
-decreases-loop-k l = l.n - l.k
+abbrev pub invariant-loop : goal.invariant-loop
+invariant-loop l = Left l.s l.n l.start l.counter l.at

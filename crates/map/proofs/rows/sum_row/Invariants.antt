@@ -1,10 +1,6 @@
 -- `map::rows::sum_row`: at cell k, the cells before it are tested and their people summed. Assumes nothing.
-use Rattle.std.proofs.Common.{◌-◌}
 use Rattle.map.proofs.RowLoops.{Summed}
 use Rattle.map.proofs.rows.sum_row.Given as goal
 
 abbrev pub invariant-loop-k : goal.invariant-loop-k
-invariant-loop-k l = Summed l.s l.at l.n l.k l.fine l.people
-
-abbrev pub decreases-loop-k : goal.decreases-loop-k
-decreases-loop-k l = l.n - l.k
+invariant-loop-k l = Summed l.s l.at l.k l.fine l.people

@@ -1,49 +1,26 @@
 -- `records::Record::check`: the count, then one area a turn. Assumes nothing.
-use Rattle.std.proofs.Common.{◌≡◌, ℕ, true, List, length, take, leb, sym, ap, ◌∙◌, arith}
-use lib.Seq.{length-take-le, get_or-take}
-use borrow.Author.Tests.{leb-true}
-use Rattle.lists.proofs.Tests.{second-of}
+use Rattle.std.proofs.Common.{◌≡◌, true, take, refl, rules}
+use Rattle.std.proofs.lemmas.Result.{err_from_is_err_and}
 use Rattle.map.specs.Format.{within}
-use Rattle.records.specs.declared.Kept.{Kept}
-use Rattle.records.specs.Record.{no_kept, area_fault}
-use Rattle.records.proofs.FaultLaws.{numbered, sound-starts, sound-stops, sound-turns, sound-ends, fault-count, fault-areas}
+use Rattle.records.proofs.FaultLaws.{numbered, sound-starts, sound-stops, sound-turns, sound-ends, fault-areas}
 use Rattle.records.proofs.Record.check.Goals as goal
 
--- past the first test the count is at most 32, and so many areas are looked at
-size : (count : ℕ) (areas : List Kept) → within 1 32 count ≡ true → length areas ≡ 32 → length (take count areas) ≡ count
-size count areas w n =
-    let few = leb-true count 32 (second-of (leb 1 count) (leb count 32) w) in
-    length-take-le count areas (omega arith)
+pub loop-k-init : goal.loop-k-init
+loop-k-init c = sound-starts (take c.args.self.count c.args.self.areas)
 
-pub returns-then-not-in_limits : goal.returns-then-not-in_limits
-returns-then-not-in_limits c = fault-count c.args.self (sym c.if-not-in_limits.ensures)
-
-pub loop-i-init : goal.loop-i-init
-loop-i-init c = sound-starts (take c.args.self.count c.args.self.areas)
-
-pub returns-in-Refused : goal.returns-in-Refused
-returns-in-Refused c =
+pub returns-in_err-check : goal.returns-in_err-check
+returns-in_err-check c =
     let a = c.args.self in
-    let counted = sym c.if-not-in_limits.ensures in
-    let n = size a.count a.areas counted (omega arith) in
-    let b = c.loop-i-test.true in
-    let here = get_or-take a.count a.areas c.loop-i.i no_kept b in
-    fault-areas a counted
-    (sound-stops c.loop-i.invariant (omega arith) (c.in-Refused.ensures ∙ ap (area_fault c.loop-i.before) (sym here))
-    (numbered c.in-Refused.f))
+    let counted : within 1 32 a.count ≡ true = search rules in
+    let p = err_from_is_err_and c.from_residual.result c.from_residual.ensures.1 in
+    rw (p.1, p.2)
+    (fault-areas a counted (sound-stops c.loop-k.invariant c.loop-k-test.true c.in_err-check.ensures (numbered _)))
 
-pub loop-i-preserved : goal.loop-i-preserved
-loop-i-preserved c =
-    let a = c.args.self in
-    let n = size a.count a.areas (sym c.if-not-in_limits.ensures) (omega arith) in
-    let b = c.loop-i-test.true in
-    let here = get_or-take a.count a.areas c.loop-i.i no_kept b in
-    sound-turns c.loop-i.invariant (omega arith) (c.in-Accepted.ensures ∙ ap (area_fault c.loop-i.before) (sym here))
-    (ap (λ (k : Kept). k.number) (sym here))
+pub loop-k-preserved : goal.loop-k-preserved
+loop-k-preserved c = sound-turns c.loop-k.invariant c.loop-k-test.true c.in_ok-check.ensures refl
 
 pub returns : goal.returns
 returns c =
     let a = c.args.self in
-    let counted = sym c.if-not-in_limits.ensures in
-    let n = size a.count a.areas counted (omega arith) in
-    fault-areas a counted (sound-ends c.loop-i.invariant (omega (arith, c.loop-i-test.false)))
+    let counted : within 1 32 a.count ≡ true = search rules in
+    fault-areas a counted (sound-ends c.loop-k.invariant c.loop-k-test.false)

@@ -1,10 +1,6 @@
--- `records::Record::check`: the count, then one area a turn. Assumes nothing.
-use Rattle.std.proofs.Common.{◌-◌, take}
+-- `records::Record::check`: the first fault is that of the areas that are left. Assumes nothing.
 use Rattle.records.proofs.FaultLaws.{Sound}
 use Rattle.records.proofs.Record.check.Given as goal
 
-abbrev pub invariant-loop-i : goal.invariant-loop-i
-invariant-loop-i l = Sound (take l.count l.self.areas) l.i l.before
-
-abbrev pub decreases-loop-i : goal.decreases-loop-i
-decreases-loop-i l = l.count - l.i
+abbrev pub invariant-loop-k : goal.invariant-loop-k
+invariant-loop-k l = Sound l.k-items l.k-index l.before

@@ -1,33 +1,24 @@
--- `records::Record::grant`: by whether the map is accepted. Assumes nothing.
-use mathlib.Core.Path.{ap, ◌∙◌}
-use mathlib.Core.Bool.{true, cond}
-use Prim.Native.Nat.{ℕ}
-use lib.Dec.{eqb}
-use lib.ListN.{take}
+-- `records::Record::grant`: of an accepted grant. Assumes nothing.
+use Rattle.std.proofs.Common.{◌≡◌, List, Ok, ap, subst, ◌∙◌, rules}
 use Rattle.map.specs.Format.{read_map}
-use Rattle.register.specs.declared.Step.{Step}
 use Rattle.register.specs.Licences.{in_force}
-use Rattle.register.specs.Rules.{grant_number}
-use Rattle.register.specs.Promises.{GrantStep}
-use Rattle.records.specs.Code.{moved_all}
-use Rattle.records.proofs.HeldLaws.{map-refuses, map-accepts, grant-moves}
+use Rattle.register.specs.Promises.{GrantStep, granted_step}
+use Rattle.coverage.specs.declared.Holding.{Holding}
+use Rattle.records.specs.Code.{plus_sums, moved_all}
+use Rattle.records.proofs.HeldLaws.{map-accepts, grant-moves}
 use Rattle.records.proofs.Record.grant.Goals as goal
 
-pub returns-in-Refused : goal.returns-in-Refused
-returns-in-Refused c =
+pub returns : goal.returns
+returns c =
     let a = c.args in
-    map-refuses (read_map a.map.now) (in_force c.grant_step-alone.result.next.places) c.holdings_in-held.result
-    c.in-Refused.f a.register a.self _ _ c.holdings_in-held.ensures c.in-Refused.is
-
-pub returns-in-Accepted : goal.returns-in-Accepted
-returns-in-Accepted c =
-    let empty = c.empty in
-    let a = c.args in
-    let step : Step = record { next = c.grant-granted.result.next; refusal = grant_number c.grant-granted.result.answer } in
-    map-accepts (read_map a.map.now) (in_force c.grant_step-alone.result.next.places) c.holdings_in-held.result a.register a.self
-    (GrantStep a.register a.l) _ c.holdings_in-held.ensures c.in-Accepted.is step c.after-self.result
-    c.grant-granted.ensures
-    (λ areas e. grant-moves empty.result a.l c.grant_step-alone.result empty.ensures c.grant_step-alone.ensures a.register
-    a.self c.after-self.result step c.grant-granted.ensures (take c.holdings_in-held.result.count c.holdings_in-held.result.areas) areas e
-    (c.after-self.ensures ∙ ap (λ (n : ℕ). cond (eqb n 0)
-    (moved_all true (take c.holdings_in-held.result.count c.holdings_in-held.result.areas) a.self) a.self) c.number.ensures))
+    let next = c.in_ok-register.register in
+    let accepted : c.grant.result ≡ Ok next = search rules in
+    let s : GrantStep a.register a.l (record { next = next; refusal = 0 }) =
+    subst (λ r. GrantStep a.register a.l (granted_step a.register r)) accepted c.grant.ensures in
+    let d = c.in_ok-held.ensures in
+    map-accepts (read_map a.map.now) a.register a.self (GrantStep a.register a.l) _
+    (in_force c.grant_step.result.next.places) c.in_ok-held.held d _ _ s
+    (c.changed.ensures plus_sums (λ k s r p. p.2)
+    ∙ ap (λ (held : List Holding). moved_all plus_sums held a.self) c.areas.ensures
+    ∙ grant-moves c.empty.result a.l c.grant_step.result c.empty.ensures c.grant_step.ensures a.register next s
+    _ d.areas d.each a.self)

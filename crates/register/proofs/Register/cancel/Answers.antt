@@ -1,21 +1,11 @@
--- `register::Register::cancel` meets its contract: the answer is that of the step's number. Assumes nothing.
-use Rattle.std.proofs.Common.{◌≡◌, sym, ap, ◌∙◌}
-use Rattle.register.specs.Licences.{in_force}
-use Rattle.register.specs.Rules.{cancel_number, cancel_answer}
-use Rattle.register.proofs.Laws.{cancel-number}
+-- `register::Register::cancel` meets its contract: by whether the call sign is in force. Assumes nothing.
+use Rattle.std.proofs.Common.{sym, ◌∙◌}
+use Rattle.register.proofs.StepLaws.{cancel-refused, cancel-done}
 use Rattle.register.proofs.Register.cancel.Goals as goal
+
+pub returns-then-not-holds : goal.returns-then-not-holds
+returns-then-not-holds c = cancel-refused c.args.self c.args.call_sign (sym c.holds.ensures ∙ c.if-not-holds.true)
 
 pub returns : goal.returns
 returns c =
-    let a = c.args in
-    let step = c.cancel_step-step in
-    let d = step.ensures in
-    let same : cancel_number c.of.result ≡ step.result.refusal =
-    ap cancel_number c.of.ensures
-    ∙ ap (λ n. cancel_number (cancel_answer n)) d.number
-    ∙ cancel-number (in_force a.self.places) a.call_sign ∙ sym d.number in
-    record {
-      number = same ∙ d.number;
-      refused = λ n. d.refused (λ z. n (same ∙ z));
-      accepted = λ z. d.accepted (sym same ∙ z);
-    }
+    cancel-done c.args.self c.args.call_sign (sym c.holds.ensures ∙ c.if-not-holds.false) c.release.new.self c.release.ensures

@@ -1,38 +1,41 @@
 -- `register::Register::naming` meets its contract: two sums over the places, one place a turn. Assumes nothing.
-use Rattle.std.proofs.Common.{◌≡◌, ℕ, ◌*◌, ◌≤◌, length, ap, ◌∙◌, arith}
-use native.Mathlib.Nat.{mul-le-mul}
-use Rattle.register.specs.declared.Licence.{Licence}
-use Rattle.register.specs.Licences.{full_width}
+use Rattle.std.proofs.Common.{◌≡◌, ℕ, ◌+◌, length, get_or, sym, ap, ◌∙◌, arith}
+use native.Mathlib.Nat.{add-zero}
+use Rattle.register.specs.Licences.{free_place}
 use Rattle.register.specs.Rules.{limit}
-use Rattle.register.specs.Sums.{at_place}
-use Rattle.register.proofs.GroundLaws.{times-adds, named, named_width, count-turns, count-ends}
+use Rattle.register.proofs.GroundLaws.{counted-adds, passed-adds, count-turns, count-ends}
 use Rattle.register.proofs.Register.naming.Goals as goal
+use Rattle.register.proofs.Register.naming.Goals.{then-names, else-names}
 
-pub loop-k-preserved : goal.loop-k-preserved
-loop-k-preserved c =
-    let v = c.loop-k.invariant in
-    let t = c.loop-k-test.true in
+pub loop-p-preserved : goal.loop-p-preserved
+loop-p-preserved c =
+    let v = c.loop-p.invariant in
+    let t = c.loop-p-test.true in
     let n : length c.args.self.places ≡ limit = omega arith in
-    let f = named c.args.number in
-    let l = c.licence-l in
-    let e = c.names_area-named.ensures in
-    let w : l.result.width ≤ full_width = omega (arith, ap (λ (x : Licence). x.width) l.ensures) in
-    -- a place adds at most 50 MHz
-    let most : l.result.width * c.names_area-named.result ≤ full_width = omega (arith, mul-le-mul w e.1) in
-    let weighed = ap (λ (m : ℕ). l.result.width * m) e.0 ∙ times-adds l.result (λ x. x.width) f in (
-      omega arith,
-      count-turns v.1 (omega arith) (e.0 ∙ ap (at_place f) l.ensures) e.1,
-      count-turns v.2 (omega arith) (weighed ∙ ap (at_place (named_width c.args.number)) l.ensures) most,
-    )
+    let number = c.args.number in
+    let p = get_or c.args.self.places c.loop-p.p-index free_place in
+    elim c.if-names.branch [
+      | then-names w ↦
+          let named = counted-adds number p (sym c.names.ensures ∙ w.if-names.true) in
+          let width = w.from-width.ensures ∙ w.width.ensures in (
+            count-turns v.0 w.licences-is (omega arith) named.0 (omega arith),
+            count-turns v.1 (w.width-is ∙ ap (λ (x : ℕ). c.loop-p.width + x) width) (omega arith) named.1 (omega arith),
+          )
+      | else-names w ↦
+          let other = passed-adds number p (sym c.names.ensures ∙ w.if-names.false) in (
+            count-turns v.0 (w.licences-is ∙ sym (add-zero c.loop-p.licences)) (omega arith) other.0 (omega arith),
+            count-turns v.1 (w.width-is ∙ sym (add-zero c.loop-p.width)) (omega arith) other.1 (omega arith),
+          )
+    ]
 
 pub returns : goal.returns
 returns c =
-    let v = c.loop-k.invariant in
+    let v = c.loop-p.invariant in
     let n : length c.args.self.places ≡ limit = omega arith in
-    let all = c.loop-k-test.false in
+    let end = c.loop-p.auto.p-index-end in
     record {
-      licences = count-ends v.1 (omega arith);
-      width = count-ends v.2 (omega arith);
-      few = omega (arith, v.0, v.1.small);
-      most = omega (arith, v.0, v.2.small);
+      licences = count-ends v.0 (omega arith);
+      width = count-ends v.1 (omega arith);
+      few = omega (arith, v.0.small);
+      most = omega (arith, v.1.small);
     }
