@@ -7,6 +7,9 @@ use Rattle.map.specs.Format.{Area, read_map}
 use Rattle.map.specs.Answers.{Located, none, some, locate, SoughtOf, lacking, has, located_as, seek}
 use Rattle.map.specs.Answers as looked
 use Rattle.map.proofs.Accepted.{LookedUpIn}
+use Rattle.register.specs.declared.Licence.{Licence}
+use Rattle.coverage.specs.declared.Holding.{Holding}
+use Rattle.coverage.specs.Cover.{holding_of}
 use Rattle.coverage.specs.Answers.{Answer, refused, answers, of_located, of_map}
 
 -- what is looked up is refused and lacking alike, whatever is handed out of the area
@@ -39,12 +42,17 @@ made zeros h (looked.refused x) = refused x
 made zeros h lacking = answers zeros
 made zeros h (has b) = answers (h b)
 
-pub made-is : {A B : Type 0} (number : ℕ) (zeros : A) (h : B → A) (f : Area → B) (r : Read (List Area))
-    → made zeros h (seek f number r) ≡ of_map number zeros (λ a. h (f a)) r
+-- what is found of an area of a map makes the answer that is defined
+pub answered : {A : Type 0} (number : ℕ) (zeros : A) (h : Holding → A) (licences : List Licence) (s : List ℕ) {found : SoughtOf Holding}
+    → found ≡ seek (holding_of licences) number (read_map s)
+    → made zeros h found ≡ of_map number zeros (λ a. h (holding_of licences a)) (read_map s)
 unfolding seek
-made-is number zeros h f (bad x) = refl
-made-is {A} {B} number zeros h f (good l e) = by (locate number l)
+answered {A} number zeros h licences s e = ap (made zeros h) e ∙ by-map (read_map s)
   where
-    by : (g : Located) → made zeros h (located_as f g) ≡ answers (of_located zeros (λ a. h (f a)) g)
-    by none = refl
-    by (some a) = refl
+    by-area : (g : Located) → made zeros h (located_as (holding_of licences) g) ≡ answers (of_located zeros (λ a. h (holding_of licences a)) g)
+    by-area none = refl
+    by-area (some a) = refl
+
+    by-map : (r : Read (List Area)) → made zeros h (seek (holding_of licences) number r) ≡ of_map number zeros (λ a. h (holding_of licences a)) r
+    by-map (bad x) = refl
+    by-map (good l e) = by-area (locate number l)

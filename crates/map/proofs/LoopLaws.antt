@@ -127,14 +127,6 @@ module _ {A : Type 0} (item : ℕ → ℕ → Read A) (f : A → Counts) (all : 
       ap (λ (k : ℕ). add_read acc (map_read all (many item k j at))) (sub-end n j h)
       ∙ ap (λ (k : Counts). good k at) (ap (sum acc) adds.none ∙ sum-last acc)
 
-  rest-start : (n at : ℕ) → map_read all (many item n 0 at) ≡ rest n 0 at no_counts
-  rest-start n at =
-      go (map_read all (many item n 0 at)) ∙ ap (λ (k : ℕ). add_read no_counts (map_read all (many item k 0 at))) (omega arith)
-    where
-      go : (r : Read Counts) → r ≡ add_read no_counts r
-      go (bad x) = refl
-      go (good m e) = ap (λ (k : Counts). good k e) (sum_first m)
-
   -- the invariant of such a loop, at item j of n: each item has at most `most` places
   pub record Walk (most n start j at : ℕ) (acc : Counts) : Type 0 where
     pub inside : j ≤ n

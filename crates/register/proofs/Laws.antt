@@ -12,7 +12,7 @@ use mathlib.Core.Logic.{◌≢◌}
 use Rattle.std.specs.Prelude.{Option, Some, None, MatchOption, ok_or}
 use Rattle.std.specs.List.{HoldsAt, AllWithin, list_any}
 use lib.Seq.{set-get_or}
-use borrow.Author.Tests.{eqb-true, eq-eqb, ne_eqb, le-leb, lt-leb, leb-true, leb-false}
+use borrow.Author.Tests.{eqb-true, eqb-false, eq-eqb, ne_eqb, le-leb, lt-leb, leb-true, leb-false}
 use Rattle.lists.proofs.Tests.{by-test, not-both, second-of}
 use Rattle.lists.specs.Sums.{any}
 use Rattle.register.specs.declared.Ground.{Ground}
@@ -211,12 +211,13 @@ release-all (suc i) s (p ∷ ps) h =
     ap (λ qs. cond (has_sign s (licence_of p)) free_place p ∷ qs) (release-all i s ps (omega arith))
 
 -- nothing to release
-pub release-none : (s : ℕ) (ps : List FlatLicence)
-    → ((k : ℕ) → k < length ps → (get_or ps k free_place).call_sign ≡ s → ⊥) → release s ps ≡ ps
-release-none s [] h = refl
-release-none s (p ∷ ps) h =
-    simp (sign-not s (licence_of p) (h zero (omega arith)))
-    (ap (λ qs. p ∷ qs) (release-none s ps (λ k b. h (suc k) (omega arith))))
+release-unheld : (s : ℕ) (ps : List FlatLicence) → stands s ps ≡ false → release s ps ≡ ps
+release-unheld s [] h = refl
+release-unheld s (p ∷ ps) h =
+    by-test (has_sign s (licence_of p)) (λ t. not-both (simp t) h) (λ t. simp t (ap (λ qs. p ∷ qs) (release-unheld s ps (simp t at h))))
+
+pub release-not-held : (s : ℕ) (ps : List FlatLicence) → (s ≡ 0 → ⊥) → held s (in_force ps) ≡ false → release s ps ≡ ps
+release-not-held s ps n h = release-unheld s ps (sym (held-in-force s ps n) ∙ h)
 
 -- a place that is not reached yet
 pub not-reached : (i s : ℕ) (ps : List FlatLicence) → get_or (release_to i s ps) i free_place ≡ get_or ps i free_place
@@ -224,23 +225,54 @@ not-reached zero s ps = refl
 not-reached (suc i) s [] = refl
 not-reached (suc i) s (p ∷ ps) = not-reached i s ps
 
--- a turn of the loop over the places: `now` are the places before the turn, `new` those after it
-module _ (i s : ℕ) (old now new : List FlatLicence) (b : i < length old) (e : now ≡ release_to i s old) where
-  one_more : set now i (cond (has_sign s (licence_of (get_or now i free_place))) free_place (get_or now i free_place))
-      ≡ release_to (i + 1) s old
-  one_more = rw (add-one, e) (go i old b)
+-- a walk over the places that frees those of a call sign: the first i are released, and whether one of them had it is told
+pub record Walked (s : ℕ) (old now : List FlatLicence) (any : Bool) (i : ℕ) : Type 0 where
+  pub released : now ≡ release_to i s old
+  pub yes : any ≡ true → stands s old ≡ true
+  pub no : any ≡ false → (k : ℕ) → k < i → (get_or old k free_place).call_sign ≡ s → ⊥
+
+pub walk-starts : (s : ℕ) (old : List FlatLicence) → Walked s old old false 0
+walk-starts s old = record { released = refl; yes = λ e. not-both e refl; no = λ e k b. absurd (omega arith) }
+
+module _ {s : ℕ} {old now : List FlatLicence} {any : Bool} {i : ℕ} (w : Walked s old now any i) where
+  module _ (b : i < length old) where
+    here : get_or now i free_place ≡ get_or old i free_place
+    here = ap (λ ps. get_or ps i free_place) w.released ∙ not-reached i s old
+
+    one_more : set now i (cond (has_sign s (licence_of (get_or now i free_place))) free_place (get_or now i free_place))
+        ≡ release_to (i + 1) s old
+    one_more = rw (add-one, w.released) (go i old b)
+      where
+        go : (i : ℕ) (ps : List FlatLicence) → i < length ps →
+            (let p = get_or (release_to i s ps) i free_place in
+            set (release_to i s ps) i (cond (has_sign s (licence_of p)) free_place p) ≡ release_to (suc i) s ps)
+        go i [] b = absurd (not-suc-le-zero b)
+        go zero (p ∷ ps) b = refl
+        go (suc i) (p ∷ ps) b = ap (λ qs. cond (has_sign s (licence_of p)) free_place p ∷ qs) (go i ps (omega arith))
+
+    -- the place has the call sign, and is freed
+    pub walk-frees : (get_or now i free_place).call_sign ≡ s → Walked s old (set now i free_place) true (i + 1)
+    walk-frees h = record {
+      released = simp (sign-is s (licence_of (get_or now i free_place)) h) at one_more;
+      yes = λ e. stands_at s old i b (sym (ap (λ (p : FlatLicence). p.call_sign) here) ∙ h);
+      no = λ e. not-both refl e;
+    }
+
+    -- the place has another call sign, and stays
+    pub walk-leaves : ((get_or now i free_place).call_sign ≡ s → ⊥) → Walked s old now any (i + 1)
+    walk-leaves h = record {
+      released = sym (set-get_or now i free_place) ∙ (simp (sign-not s (licence_of (get_or now i free_place)) h) at one_more);
+      yes = w.yes;
+      no = λ e k l q. by-test (eqb k i)
+          (λ t. h (ap (λ (p : FlatLicence). p.call_sign) (here ∙ ap (λ j. get_or old j free_place) (sym (eqb-true k i t))) ∙ q))
+          (λ t. let ne = eqb-false k i t in w.no e k (omega arith) q);
+    }
+
+  -- all places are passed
+  pub walk-ends : length old ≤ i → (any ≡ stands s old) × (now ≡ release s old)
+  walk-ends h = (go any w.yes w.no, w.released ∙ release-all i s old h)
     where
-      go : (i : ℕ) (ps : List FlatLicence) → i < length ps →
-          (let p = get_or (release_to i s ps) i free_place in
-          set (release_to i s ps) i (cond (has_sign s (licence_of p)) free_place p) ≡ release_to (suc i) s ps)
-      go i [] b = absurd (not-suc-le-zero b)
-      go zero (p ∷ ps) b = refl
-      go (suc i) (p ∷ ps) b = ap (λ qs. cond (has_sign s (licence_of p)) free_place p ∷ qs) (go i ps (omega arith))
-
-  -- the place has the call sign, and is freed
-  pub turn-frees : (get_or now i free_place).call_sign ≡ s → new ≡ set now i free_place → new ≡ release_to (i + 1) s old
-  turn-frees h n = n ∙ (simp (sign-is s (licence_of (get_or now i free_place)) h) at one_more)
-
-  -- the place has another call sign, and stays
-  pub turn-leaves : ((get_or now i free_place).call_sign ≡ s → ⊥) → new ≡ now → new ≡ release_to (i + 1) s old
-  turn-leaves h n = n ∙ sym (set-get_or now i free_place) ∙ (simp (sign-not s (licence_of (get_or now i free_place)) h) at one_more)
+      go : (any : Bool) → (any ≡ true → stands s old ≡ true)
+          → (any ≡ false → (k : ℕ) → k < i → (get_or old k free_place).call_sign ≡ s → ⊥) → any ≡ stands s old
+      go true y n = sym (y refl)
+      go false y n = sym (stands-none s old (λ k b. n refl k (omega arith)))

@@ -7,9 +7,10 @@ use Rattle.register.specs.Promises.{CancelStep}
 
 module _ (old : Register) (s : ℕ) where
   -- what is not in force is refused, and the register stays
-  pub cancel-refused : held s (in_force old.places) ≡ false → CancelStep old s (record { next = old; refusal = 11 })
+  pub cancel-refused : held s (in_force old.places) ≡ false → (new : Register) → new.places ≡ old.places
+      → CancelStep old s (record { next = new; refusal = 11 })
   unfolding cancel_rule
-  cancel-refused h = record { number = simp h; refused = λ _. refl; accepted = λ z. absurd (omega arith) }
+  cancel-refused h new e = record { number = simp h; refused = λ _ i. record { places = e i }; accepted = λ z. absurd (omega arith) }
 
   -- what is in force is cancelled, and the call sign's places are free
   pub cancel-done : held s (in_force old.places) ≡ true → (new : Register) → new.places ≡ release s old.places

@@ -37,8 +37,8 @@ abbrev pub next_of : {E : Type 0} → Register → Result Register E → Registe
 next_of old (Ok next) = next
 next_of old (Err e) = old
 
-abbrev pub refusal_of : {E : Type 0} → (E → ℕ) → Result Register E → ℕ
-refusal_of number (Ok next) = 0
+abbrev pub refusal_of : {A E : Type 0} → (E → ℕ) → Result A E → ℕ
+refusal_of number (Ok a) = 0
 refusal_of number (Err e) = number e
 
 abbrev pub granted_step : Register → Result Register GrantRefusal → Step
@@ -53,6 +53,10 @@ GrantDone old l r = GrantStep old l (granted_step old r)
 
 abbrev pub CancelDone : Register → ℕ → Result Register NotInForce → Type 0
 CancelDone old s r = CancelStep old s (cancelled_step old r)
+
+-- what a call comes to that changes its own register
+abbrev pub step_to : {A E : Type 0} → (E → ℕ) → Register → Result A E → Step
+step_to number next r = record { next = next; refusal = refusal_of number r }
 
 -- a place for the licence that is free where the rule accepts it, else the rule's refusal
 abbrev pub PlaceFound : List FlatLicence → Licence → Result ℕ GrantRefusal → Type 0

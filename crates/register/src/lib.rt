@@ -2,13 +2,13 @@
 // widths. naming and boxes hand out what the crates above count people by, and struck what they subtract.
 #![tactic(auto)]
 
-ghost use Rattle.std.specs.Prelude.{◌≡◌, ◌-◌, ◌≤◌, is_some};
+ghost use Rattle.std.specs.Prelude.{◌≡◌, ◌-◌, ◌≤◌, ◌<◌, is_some};
 ghost use Rattle.std.specs.List.{IsAfterLastMatch};
 ghost use Rattle.register.specs.Licences.{full_width, full_licence, box_formed, ground_formed, width_formed, well_formed};
 ghost use Rattle.register.specs.Licences.{ground_of, licence_at_width, licence_of, flat_of, standing, in_force, held, struck, release};
 ghost use Rattle.register.specs.Rules.{grant_number, cancel_number};
 ghost use Rattle.register.specs.Sums.{SameLicences};
-ghost use Rattle.register.specs.Promises.{EmptyDone, PlaceFound, GrantDone, CancelDone, GrantStep, CancelStep};
+ghost use Rattle.register.specs.Promises.{EmptyDone, PlaceFound, GrantDone, CancelDone, GrantStep, CancelStep, step_to};
 ghost use Rattle.register.specs.Grounds.{area_at, names_at, box_at, NamingDone, EdgesDone, WidthsDone, BoxesDone};
 
 use boxes::Boxes;
@@ -269,8 +269,7 @@ impl Register {
     pub fn grant(mut self, l: Licence) -> Result<Register, GrantRefusal>
         ensures { GrantDone self l result }
     {
-        let place = self.place_for(l)?;
-        self.places[place] = FlatLicence::from(l);
+        self.put(l)?;
         Ok(self)
     }
 
@@ -278,10 +277,7 @@ impl Register {
     pub fn cancel(mut self, call_sign: u32) -> Result<Register, NotInForce>
         ensures { CancelDone self call_sign result }
     {
-        if !self.holds(call_sign) {
-            return Err(NotInForce);
-        }
-        self.release(call_sign);
+        self.free(call_sign)?;
         Ok(self)
     }
 
@@ -289,13 +285,7 @@ impl Register {
     pub fn grant_step(mut self, l: Licence) -> Step
         ensures { GrantStep self l result }
     {
-        let refusal = match self.grant(l) {
-            Ok(next) => {
-                self = next;
-                0
-            }
-            Err(refusal) => u32::from(refusal),
-        };
+        let refusal = self.put(l).map_or_else(u32::from, |()| 0);
         Step {
             next: self,
             refusal,
@@ -303,17 +293,10 @@ impl Register {
     }
 
     // So does a cancellation.
-    // Kept beside grant_step: document 01 asks for methods with mut self, so each hands on its own register.
     pub fn cancel_step(mut self, call_sign: u32) -> Step
         ensures { CancelStep self call_sign result }
     {
-        let refusal = match self.cancel(call_sign) {
-            Ok(next) => {
-                self = next;
-                0
-            }
-            Err(refusal) => u32::from(refusal),
-        };
+        let refusal = self.free(call_sign).map_or_else(u32::from, |()| 0);
         Step {
             next: self,
             refusal,
@@ -363,6 +346,25 @@ impl Register {
         }
     }
 
+    // A grant in this register itself, which stays as it is where the licence is refused.
+    fn put(&mut self, l: Licence) -> Result<(), GrantRefusal>
+        ensures { GrantStep self.old l (step_to grant_number self.new result) }
+    {
+        let place = self.place_for(l)?;
+        self.places[place] = FlatLicence::from(l);
+        Ok(())
+    }
+
+    // So does a cancellation.
+    fn free(&mut self, call_sign: u32) -> Result<(), NotInForce>
+        ensures { CancelStep self.old call_sign (step_to cancel_number self.new result) }
+    {
+        if call_sign == 0 || !self.release(call_sign) {
+            return Err(NotInForce);
+        }
+        Ok(())
+    }
+
     // The place that a licence to grant takes, the first that is free; or the refusal: 6, 9, 10, in this order.
     fn place_for(&self, l: Licence) -> Result<usize, GrantRefusal>
         ensures { PlaceFound self.now.places l result }
@@ -386,15 +388,20 @@ impl Register {
         call_sign != 0 && self.places.iter().any(|p| p.call_sign == call_sign)
     }
 
-    // Frees the places of a call sign.
-    fn release(&mut self, call_sign: u32)
-        ensures { self.new.places ≡ release call_sign self.old.places }
+    // Frees the places of a call sign, and says whether a licence in force has it.
+    fn release(&mut self, call_sign: u32) -> bool
+        requires { 0 < call_sign }
+        ensures told { result ≡ held call_sign (in_force self.old.places) }
+        ensures freed { self.new.places ≡ release call_sign self.old.places }
     {
+        let mut any = false;
         for place in &mut self.places {
             if place.call_sign == call_sign {
                 *place = FlatLicence::FREE;
+                any = true;
             }
         }
+        any
     }
 
     // One more than the last place with a box in force, 0 where no place has one.

@@ -15,11 +15,11 @@ use Rattle.lists.specs.Sums.{some_below}
 use Rattle.lists.proofs.Tests.{by-test}
 use Rattle.lists.proofs.BelowLaws.{none_below, some_same, some-add}
 use Rattle.lists.proofs.InPlace.{Rewritten, starts, turns, skips, ends, row-turns, row_ends}
-use Rattle.ring.specs.Ring.{Places, around, outside, edge, ring, shown, seen, marked}
+use Rattle.ring.specs.Ring.{Places, around, outside, edge, ring, shown, seen, marked, fits}
 use Rattle.ring.specs.declared.Pass.{Pass}
 use Rattle.ring.specs.declared.Pass.TheVariants.{Around, Outside, Edge}
 use Rattle.ring.specs.Code.{grows, to_mark, Inside}
-use Rattle.ring.proofs.RingLaws.{Sizes, few-places, outside-in, around-in, edge_in}
+use Rattle.ring.proofs.RingLaws.{Sizes, fits_in, few-places, outside-in, around-in, edge_in}
 
 -- ---- the places that a pass marks
 
@@ -112,11 +112,20 @@ module _ (pass : Pass) (cells : Places) (n columns : ℕ) {before now : List ℕ
 -- ---- the rows
 
 -- the row from place r * columns on lies in the mask
-pub row-room : (rows columns r : ℕ) {bytes : ℕ} → rows * columns ≤ bytes → r < rows → r * columns + columns ≤ bytes
+row-room : (rows columns r : ℕ) {bytes : ℕ} → rows * columns ≤ bytes → r < rows → r * columns + columns ≤ bytes
 row-room rows columns r long h = omega (arith, (row_ends r rows columns (r * columns) refl h).0)
 
+-- as it does where the grid fits
+pub row_fits : (rows columns r bytes : ℕ) → fits rows columns bytes ≡ true → r < rows
+    → (r * columns + columns ≤ bytes) × (r * columns ≤ 65536) × (columns ≤ 256)
+row_fits rows columns r bytes e h =
+    let s = fits_in rows columns bytes e in
+    let room = row-room rows columns r s.long h in
+    let few = row-room rows columns r (few-places rows columns bytes s) h in
+    (room, omega arith, s.narrow)
+
 -- it is rewritten by a callee that is lent the part from there on
-pub row-next : {f : ℕ → ℕ → ℕ} {before now : List ℕ} (rows columns r : ℕ) → Rewritten f before now (r * columns)
+row-next : {f : ℕ → ℕ → ℕ} {before now : List ℕ} (rows columns r : ℕ) → Rewritten f before now (r * columns)
     → rows * columns ≤ length before → r < rows → (g : ℕ → ℕ → ℕ) (part : List ℕ)
     → length part ≡ length (take (length now - r * columns) (drop (r * columns) now))
     → ((j : ℕ) → get_or part j 0 ≡ g j (get_or (take (length now - r * columns) (drop (r * columns) now)) j 0))
@@ -125,6 +134,20 @@ pub row-next : {f : ℕ → ℕ → ℕ} {before now : List ℕ} (rows columns r
 row-next rows columns r w long h g part kept put inside past =
     rw (row_ends r rows columns (r * columns) refl h).1 at
     (row-turns w g part columns (row-room rows columns r long h) kept put inside past)
+
+-- rows are turned one by one where the callee turns each byte of a row: byte i of n to what `to` makes of it, none past them
+pub row-turned : (turn : (n i b : ℕ) → ℕ) (to : ℕ → ℕ)
+    → ((n i b : ℕ) → i < n → turn n i b ≡ to b) → ((n i b : ℕ) → n ≤ i → turn n i b ≡ b)
+    → {before now : List ℕ} (rows columns r : ℕ) → fits rows columns (length before) ≡ true → r < rows
+    → Rewritten (turn (rows * columns)) before now (r * columns) → (part : List ℕ)
+    → length part ≡ length (take (length now - r * columns) (drop (r * columns) now))
+    → ((j : ℕ) → get_or part j 0 ≡ turn columns j (get_or (take (length now - r * columns) (drop (r * columns) now)) j 0))
+    → Rewritten (turn (rows * columns)) before (put_mid (r * columns) (length now - r * columns) now part) ((r + 1) * columns)
+row-turned turn to inside past {before} rows columns r e h w part kept put =
+    let low = row-room rows columns r {bytes = rows * columns} (omega arith) h in
+    row-next rows columns r w (fits_in rows columns (length before) e).long h (turn columns) part kept put
+    (λ j b l. inside columns j b l ∙ sym (inside (rows * columns) (r * columns + j) b (omega arith)))
+    (λ j b l. past columns j b l)
 
 module _ (pass : Pass) (cells : List ℕ) (rows columns : ℕ) {before now : List ℕ} {any : Bool} {r : ℕ}
     (p : Passed pass cells before now rows columns any (r * columns)) where

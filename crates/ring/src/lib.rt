@@ -78,6 +78,7 @@ pub fn form(mask: &mut [u8], cells: &[u8], grid: Grid, grow: bool)
 }
 
 // Turns the marks of the area to the byte given.
+#[tactic(auto, using(crate::proofs::MarkLaws::row_fits, lists::proofs::InPlace::part_room))]
 pub fn settle(mask: &mut [u8], grid: Grid, to: u8)
     ensures { (i : ℕ) →
         get_or mask.new i 0
@@ -95,6 +96,7 @@ pub fn settle(mask: &mut [u8], grid: Grid, to: u8)
 
 // Turns every byte of the area to 0.
 // Kept beside settle: the two differ in their row writer, and a closure over one would carry its contract for a line less.
+#[tactic(auto, using(crate::proofs::MarkLaws::row_fits, lists::proofs::InPlace::part_room))]
 pub fn wipe(mask: &mut [u8], grid: Grid)
     ensures { (i : ℕ) →
         get_or mask.new i 0
@@ -112,6 +114,7 @@ pub fn wipe(mask: &mut [u8], grid: Grid)
 
 // Marks the places of a pass row by row, and says whether there are any. The marks do not change the set that the mask shows, so a row is
 // read after those before it are marked.
+#[tactic(auto, using(crate::proofs::MarkLaws::row_fits, lists::proofs::InPlace::part_room))]
 fn mark_rows(mask: &mut [u8], cells: &[u8], grid: Grid, pass: Pass) -> bool
     requires masked { fits grid.rows grid.columns (length mask.old) ≡ true }
     requires celled { fits grid.rows grid.columns (length cells.now) ≡ true }

@@ -45,34 +45,26 @@ unfolding people_with sum_below
 counted-starts mask people n byte = record { low = omega arith; most = omega arith; is = refl }
 
 module _ {mask people : List ℕ} {n byte sum i : ℕ} (c : Counted mask people n byte sum i) (k : Countable mask people n) (h : i < n) where
-  -- a place adds at most the map's limit
-  pub adds-few : {p : ℕ} → p ≡ get_or people i 0 → p ≤ 1_000_000
-  adds-few e = omega (arith, k.few i h)
-
-  pub counted-adds : {b p : ℕ} → b ≡ get_or mask i 0 → b ≡ byte → p ≡ get_or people i 0 → Counted mask people n byte (sum + p) (i + 1)
+  pub counted-adds : {p : ℕ} → get_or mask i 0 ≡ byte → p ≡ get_or people i 0 → Counted mask people n byte (sum + p) (i + 1)
   unfolding people_with sum_below
-  counted-adds d t e =
-      let few = adds-few e in
+  counted-adds t e =
+      let few = k.few i h in
       let most = c.most in
       record {
         low = omega arith;
         most = omega arith;
-        is = rw (add-one i, eq-eqb (get_or mask i 0) byte (sym d ∙ t)) (λ j. c.is j + e j);
+        is = rw (add-one i, eq-eqb (get_or mask i 0) byte t) (λ j. c.is j + e j);
       }
 
-  pub counted-skips : {b : ℕ} → b ≡ get_or mask i 0 → (b ≡ byte → ⊥) → Counted mask people n byte sum (i + 1)
+  pub counted-skips : {p : ℕ} → (get_or mask i 0 ≡ byte → ⊥) → p ≡ 0 → Counted mask people n byte (sum + p) (i + 1)
   unfolding people_with sum_below
-  counted-skips d t =
+  counted-skips t e =
       let most = c.most in
       record {
         low = omega arith;
         most = omega arith;
-        is = rw (add-one i, ne_eqb (get_or mask i 0) byte (λ e. t (d ∙ e))) (omega (arith, c.is));
+        is = rw (add-one i, ne_eqb (get_or mask i 0) byte t) (omega (arith, c.is));
       }
-
-pub counted-ends : {mask people : List ℕ} {n byte sum i : ℕ} → Counted mask people n byte sum i → n ≤ i
-    → sum ≡ people_with mask people n byte
-counted-ends {mask} {people} {n} {byte} {sum} {i} c h = let e : i ≡ n = omega (arith, c.low) in rw (← e) c.is
 
 -- ---- people and V within the limits
 

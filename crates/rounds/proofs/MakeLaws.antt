@@ -4,7 +4,6 @@ use mathlib.Core.Path.{◌≡◌, refl, sym, ap, ◌∙◌}
 use mathlib.Core.Bool.{Bool, true, false, cond, not, ◌&&◌, ◌||◌, and-false}
 use mathlib.Core.List.{List, map}
 use native.Mathlib.Omega.{arith}
-use native.Mathlib.Nat.{mul_comm, suc-mul, le-div_iff_mul-le}
 use lib.Dec.{ltb, eqb}
 use lib.ListN.{length, get_or}
 use borrow.Author.Tests.{ltb-true, ltb-false, lt-ltb, le-ltb}
@@ -78,19 +77,6 @@ module _ (people : List ℕ) (n slack : ℕ) (mask after table entries : List �
       at false (suc zero) l = refl
       at false (suc (suc zero)) l = refl
       at false (suc (suc (suc v))) l = absurd (omega arith)
-
--- ---- the slack
-
--- no more people may be left out than the outer set has
-slack-most : (unit people share : ℕ) → 0 < unit → (unit * people - share) / unit ≤ people
-slack-most unit people share pos =
-    let q = (unit * people - share) / unit in
-    let no : suc people ≤ q → ⊥ = λ h.
-    let m : suc people * unit ≤ unit * people - share = (le-div_iff_mul-le pos).0 h in
-    let s : suc people * unit ≡ people * unit + unit = suc-mul people unit in
-    let c : people * unit ≡ unit * people = mul_comm people unit in
-    omega arith in
-    by-test (ltb people q) (λ t. absurd (no (ltb-true people q t))) (λ t. ltb-false people q t)
 
 -- ---- the footprint
 
@@ -171,7 +157,8 @@ module _ {rows columns weight share : ℕ} {mask cells people : List ℕ} (w : W
     pub last-over : share ≤ 100 * weight * last.0
     unfolding value
     last-over =
-        let h : share < value a (outer a share f) = over a share f w.limits.above w.limits.below (fits_in rows columns (length mask) w.masked).some overshot in
+        let h : share < value a (outer a share f) =
+        over a share f w.limits.above w.limits.below (fits_in rows columns (length mask) w.masked).some overshot in
         rw (done.people overshot) (omega arith)
 
     pub slack-is : (100 * weight * last.0 - share) / (100 * weight) ≡ slack a share f
@@ -181,7 +168,9 @@ module _ {rows columns weight share : ℕ} {mask cells people : List ℕ} (w : W
     -- what the table's rule leaves out is what the footprint leaves out
     out-is : left_out mid people (places a) (slack a share f) ≡ taken_of (ring_cells a share f) (area.left_out a share f)
     unfolding left_out
-    out-is = rw (cells_are, left-out-is a share f w.limits.heavy (fits_in rows columns (length mask) w.masked).some w.limits.above w.limits.below overshot)
+    out-is =
+        let some = (fits_in rows columns (length mask) w.masked).some in
+        rw (cells_are, left-out-is a share f w.limits.heavy some w.limits.above w.limits.below overshot)
 
     pub made-last : (answer : Answer) (after table entries : List ℕ)
         → Finished people (places a) (slack a share f) answer mid after table entries → Made a share f answer mask after table entries

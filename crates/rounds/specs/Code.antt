@@ -1,5 +1,6 @@
 -- How the code goes about the footprint: what its inner functions ensure. The public contract cites none of this. Assumes nothing.
-use Rattle.std.specs.Prelude.{ℕ, ◌+◌, ◌*◌, ◌≤◌, ◌<◌, ◌≡◌, Bool, true, false, cond, not, ◌&&◌, List, leb, ltb, eqb, length, get_or, Option, is_some, Some, None}
+use Rattle.std.specs.Prelude.{ℕ, ◌+◌, ◌*◌, ◌≤◌, ◌<◌, ◌≡◌, Bool, true, false, cond, not, ◌&&◌, leb, ltb, eqb}
+use Rattle.std.specs.Prelude.{List, length, get_or, Option, is_some, Some, None}
 use Rattle.lists.specs.Sums.{flag, some_below, sum_below}
 use Rattle.lists.specs.Filters.{among}
 use Rattle.subset.specs.Marked.{left_out}

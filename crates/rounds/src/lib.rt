@@ -105,17 +105,15 @@ impl Area<'_> {
         0 < share.0 && share < self.value(self.people_of(self.cells, 1))
     }
 
-    // The people of the places whose byte is the one given.
+    // The people of the places whose byte is the one given. Those of a place are read whatever its byte, so that several are added at once.
     fn people_of(self, bytes: &[u8], byte: u8) -> People
         requires { Countable bytes.now self.people.now (self.grid.rows * self.grid.columns) }
         ensures { result.0 ≡ people_with bytes.now self.entry.people.now (self.entry.grid.rows * self.entry.grid.columns) byte }
     {
-        let n = self.grid.rows * self.grid.columns;
         let mut sum = 0;
-        for (b, people) in bytes[..n].iter().zip(self.people) {
-            if *b == byte {
-                sum += u64::from(*people);
-            }
+        for i in 0..self.grid.rows * self.grid.columns {
+            let people = u64::from(self.people[i]);
+            sum += if bytes[i] == byte { people } else { 0 };
         }
         People(sum)
     }

@@ -30,9 +30,9 @@ pub enum Kind {
 }
 
 impl From<Kind> for u32 {
-    fn from(kind: Kind) -> u32
-        ensures { result ≡ kind_number kind }
-    {
+    ghost from_gives = { λ k n. n ≡ kind_number k };
+
+    fn from(kind: Kind) -> u32 {
         kind as u32
     }
 }

@@ -1,14 +1,12 @@
 -- `coverage::coverage` meets its contract: by what is found of the area. Assumes nothing.
 use Rattle.std.proofs.Common.{sym, ap, ◌∙◌, Ok}
 use Rattle.std.proofs.lemmas.Result.{err_from_is_err_and}
-use Rattle.map.specs.Format.{read_map}
 use Rattle.map.specs.Answers.{sought_means}
 use Rattle.register.specs.Licences.{in_force}
 use Rattle.coverage.specs.declared.Holding.{Holding}
 use Rattle.coverage.specs.declared.CoverageSums.{CoverageSums}
-use Rattle.coverage.specs.Cover.{holding_of}
 use Rattle.coverage.specs.Answers.{no_sums, coverage_at}
-use Rattle.coverage.proofs.LookLaws.{made, made-is}
+use Rattle.coverage.proofs.LookLaws.{answered}
 use Rattle.coverage.proofs.coverage.Goals as goal
 
 -- c and the sum of cells of an area that is found
@@ -20,20 +18,18 @@ unfolding coverage_at
 returns-in_err-find_holding c =
     let a = c.args in
     let p = err_from_is_err_and c.from_residual.result c.from_residual.ensures.1 in
-    rw (p.1, p.2)
-    (ap (made no_sums sums) c.in_err-find_holding.ensures
-    ∙ made-is a.number no_sums sums (holding_of (in_force a.register.places)) (read_map a.map.now))
+    rw (p.1, p.2) (answered a.number no_sums sums (in_force a.register.places) a.map.now c.in_err-find_holding.ensures)
 
 pub returns-in-None : goal.returns-in-None
 unfolding coverage_at
 returns-in-None c =
     let a = c.args in
-    ap (made no_sums sums) (sym (ap (λ o. sought_means (Ok o)) c.in-None.is) ∙ c.in_ok-find_holding.ensures)
-    ∙ made-is a.number no_sums sums (holding_of (in_force a.register.places)) (read_map a.map.now)
+    answered a.number no_sums sums (in_force a.register.places) a.map.now
+    (sym (ap (λ o. sought_means (Ok o)) c.in-None.is) ∙ c.in_ok-find_holding.ensures)
 
 pub returns-in-Some : goal.returns-in-Some
 unfolding coverage_at
 returns-in-Some c =
     let a = c.args in
-    ap (made no_sums sums) (sym (ap (λ o. sought_means (Ok o)) c.in-Some.is) ∙ c.in_ok-find_holding.ensures)
-    ∙ made-is a.number no_sums sums (holding_of (in_force a.register.places)) (read_map a.map.now)
+    answered a.number no_sums sums (in_force a.register.places) a.map.now
+    (sym (ap (λ o. sought_means (Ok o)) c.in-Some.is) ∙ c.in_ok-find_holding.ensures)

@@ -1,5 +1,5 @@
 -- `ring::mark_rows`: each turn reads a row's marks and lends the row writer the part from the row's start on. Assumes nothing.
-use Prim.Native.Nat.{ℕ, ◌+◌, ◌*◌, ◌≤◌}
+use Prim.Native.Nat.{ℕ, ◌*◌, ◌≤◌}
 use mathlib.Core.Path.{◌≡◌, refl, sym, ◌∙◌}
 use mathlib.Core.Bool.{Bool, false}
 use mathlib.Core.List.{List}
@@ -8,17 +8,13 @@ use native.Mathlib.Nat.{zero-mul}
 use lib.ListN.{length, take}
 use lib.Seq.{length-take-le, get_or-take}
 use Rattle.lists.proofs.InPlace.{part_room}
-use Rattle.ring.proofs.RingLaws.{Sizes, fits_in, few-places}
-use Rattle.ring.proofs.MarkLaws.{mark-past, marks-start, marks-end, row-room, pass-row}
+use Rattle.ring.proofs.RingLaws.{Sizes, fits_in}
+use Rattle.ring.proofs.MarkLaws.{mark-past, marks-start, marks-end, row_fits, pass-row}
 use Rattle.ring.proofs.mark_rows.Goals.{In-loop-r}
 use Rattle.ring.proofs.mark_rows.Goals as goal
 
 sizes : (c : In-loop-r) → Sizes c.args.grid.rows c.args.grid.columns (length c.args.mask.now)
 sizes c = fits_in _ _ _ c.requires.masked
-
--- the row of a turn lies in the mask
-room : (c : In-loop-r) → c.loop-r.r * c.args.grid.columns + c.args.grid.columns ≤ length c.args.mask.now
-room c = row-room c.args.grid.rows c.args.grid.columns c.loop-r.r (sizes c).long c.loop-r-test.true
 
 -- the marks of a row of so many columns
 wide : (marks : List Bool) {columns : ℕ} → columns ≤ 256 → length marks ≡ 256 → length (take columns marks) ≡ columns
@@ -27,21 +23,6 @@ wide marks {columns} narrow room = length-take-le columns marks (omega arith)
 pub loop-r-init : goal.loop-r-init
 loop-r-init c = rw (zero-mul c.args.grid.columns) (marks-start _ c.args.mask.now)
 
-pub overflow_mul-start : goal.overflow_mul-start
-overflow_mul-start c =
-    let l = (goal.at.overflow_mul-start c).In-loop-r in
-    omega (arith, room l, few-places _ _ _ (sizes l))
-
-pub slice_bounds-mark_row-count : goal.slice_bounds-mark_row-count
-slice_bounds-mark_row-count c = omega (arith, room (goal.at.slice_bounds-mark_row-count c).In-loop-r)
-
-pub slice_bounds-mark_row-start : goal.slice_bounds-mark_row-start
-slice_bounds-mark_row-start c = omega (arith, room (goal.at.slice_bounds-mark_row-start c).In-loop-r)
-
-pub slice_bounds-marks-end : goal.slice_bounds-marks-end
-slice_bounds-marks-end c =
-    omega (arith, c.row_marks-marks.ensures.room, (sizes (goal.at.slice_bounds-marks-end c).In-loop-r).narrow)
-
 pub slice_bounds-mark_row-end-in-loop-r : goal.slice_bounds-mark_row-end-in-loop-r
 slice_bounds-mark_row-end-in-loop-r c =
     let l = (goal.at.slice_bounds-mark_row-end-in-loop-r c).In-loop-r in
@@ -49,9 +30,11 @@ slice_bounds-mark_row-end-in-loop-r c =
 
 pub mark_row-some-requires : goal.mark_row-some-requires
 mark_row-some-requires c =
+    let a = c.args in
     let l = (goal.at.mark_row-some-requires c).In-loop-r in
+    let row = row_fits a.grid.rows a.grid.columns c.loop-r.r (length a.mask.now) c.requires.masked c.loop-r-test.true in
     rw (wide c.row_marks-marks.result (sizes l).narrow c.row_marks-marks.ensures.room)
-    (part_room c.loop-r.mask _ c.args.grid.columns (omega (arith, room l)))
+    (part_room c.loop-r.mask _ a.grid.columns (omega (arith, row.0)))
 
 pub loop-r-preserved : goal.loop-r-preserved
 loop-r-preserved c =

@@ -1,7 +1,6 @@
 -- `register::Register::release` meets its contract: the places of the call sign are freed one by one. Assumes nothing.
-use Rattle.std.proofs.Common.{◌≡◌}
-use Rattle.register.proofs.Laws.{release_to}
+use Rattle.register.proofs.Laws.{Walked}
 use Rattle.register.proofs.Register.release.Given as goal
 
 abbrev pub invariant-loop-place : goal.invariant-loop-place
-invariant-loop-place l = l.place-items ≡ release_to l.place-index l.call_sign l.fn.self.places
+invariant-loop-place l = Walked l.call_sign l.fn.self.places l.place-items l.any l.place-index

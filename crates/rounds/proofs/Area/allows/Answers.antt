@@ -14,7 +14,8 @@ use Rattle.ring.proofs.RingLaws.{fits_in}
 use Rattle.rounds.specs.Footprint.{value}
 use Rattle.rounds.specs.Code.{people_with, some_above}
 use Rattle.rounds.proofs.LimitLaws.{any_above, SizesFit, sizes-in, limits-are, none_above, set-most}
-use Rattle.rounds.proofs.Area.allows.Goals.{Else-not-sizes_fit, After-any-crowded, then-marked-via-then-marked, then-marked-via-else-marked+then-crowded}
+use Rattle.rounds.proofs.Area.allows.Goals.{Else-not-sizes_fit, After-any-crowded}
+use Rattle.rounds.proofs.Area.allows.Goals.{then-marked-via-then-marked, then-marked-via-else-marked+then-crowded}
 use Rattle.rounds.proofs.Area.allows.Goals as goal
 
 -- the sizes, each by itself

@@ -43,7 +43,8 @@ returns-then-eq c =
     let m = part_of a.self.area in
     let p = counted a.mask.now a.self.area.people.now (places m) 1 a.sum.0 c.requires.sum_value in
     round-equal m a.self.share.0 a.self.grow a.mask.now
-    (sym (valued m (shown a.mask.now) c.value-v.result.0 a.sum.0 c.value-v.ensures p) ∙ eqb-true c.value-v.result.0 a.self.share.0 (sym c.eq.ensures ∙ c.if-eq.true))
+    (sym (valued m (shown a.mask.now) c.value-v.result.0 a.sum.0 c.value-v.ensures p)
+    ∙ eqb-true c.value-v.result.0 a.self.share.0 (sym c.eq.ensures ∙ c.if-eq.true))
 
 pub people_of-ring-requires : goal.people_of-ring-requires
 people_of-ring-requires c =
@@ -64,6 +65,14 @@ known c =
     weighed m a.self.grow a.mask.now c.form.new.mask w.plain (marks-are w a.self.grow c.form.new.mask c.form.ensures)
     a.sum.0 c.people_of-ring.result.0 (counted a.mask.now people (places m) 1 a.sum.0 c.requires.sum_value)
     (counted c.form.new.mask people (places m) 2 c.people_of-ring.result.0 c.people_of-ring.ensures)
+
+-- V of the set is not the share
+unequal : (c : After-people_of-ring) →
+    let a = c.args in value (part_of a.self.area) (shown a.mask.now) ≡ a.self.share.0 → ⊥
+unequal c e =
+    let a = c.args in
+    eqb-false c.value-v.result.0 a.self.share.0 (sym c.eq.ensures ∙ c.if-eq.false)
+    (valued (part_of a.self.area) (shown a.mask.now) c.value-v.result.0 a.sum.0 c.value-v.ensures (known c).set ∙ e)
 
 pub next_people-next-requires : goal.next_people-next-requires
 next_people-next-requires c =
@@ -89,12 +98,13 @@ returns-then-self c =
     let m = part_of a.self.area in
     let f = shown a.mask.now in
     let w = c.requires.within in
-    let k = known (goal.at.returns-then-self c).After-people_of-ring in
+    let r = (goal.at.returns-then-self c).After-people_of-ring in
+    let k = known r in
     -- the people and V of the next set
     let n = c.next_people-next.ensures ∙ k.next in
     let v = valued m (step a.self.grow f (ring_of m a.self.grow f)) c.value.result.0 c.next_people-next.result.0 c.value.ensures n in
     round-last m a.self.share.0 a.self.grow a.mask.now c.form.new.mask w.plain (marks-are w a.self.grow c.form.new.mask c.form.ensures)
-    (λ e. eqb-false c.value-v.result.0 a.self.share.0 (sym c.eq.ensures ∙ c.if-eq.false) (valued m f c.value-v.result.0 a.sum.0 c.value-v.ensures k.set ∙ e)) c.next_people-next.result
+    (unequal r) c.next_people-next.result
     (sym (c.in_share.ensures ∙ ap (λ (u : ℕ). in_share a.self.grow u a.self.share.0) v) ∙ c.if-not-in_share.true)
     (n ∙ takes _ c.if-self.true)
 
@@ -104,12 +114,13 @@ returns-else-self c =
     let m = part_of a.self.area in
     let f = shown a.mask.now in
     let w = c.requires.within in
-    let k = known (goal.at.returns-else-self c).After-people_of-ring in
+    let r = (goal.at.returns-else-self c).After-people_of-ring in
+    let k = known r in
     -- the people and V of the next set
     let n = c.next_people-next.ensures ∙ k.next in
     let v = valued m (step a.self.grow f (ring_of m a.self.grow f)) c.value.result.0 c.next_people-next.result.0 c.value.ensures n in
     round-last m a.self.share.0 a.self.grow a.mask.now c.form.new.mask w.plain (marks-are w a.self.grow c.form.new.mask c.form.ensures)
-    (λ e. eqb-false c.value-v.result.0 a.self.share.0 (sym c.eq.ensures ∙ c.if-eq.false) (valued m f c.value-v.result.0 a.sum.0 c.value-v.ensures k.set ∙ e)) a.sum
+    (unequal r) a.sum
     (sym (c.in_share.ensures ∙ ap (λ (u : ℕ). in_share a.self.grow u a.self.share.0) v) ∙ c.if-not-in_share.true)
     (k.set ∙ leaves _ c.if-self.false)
 
@@ -125,13 +136,14 @@ returns c =
     let f = shown a.mask.now in
     let w = c.requires.within in
     let grid = a.self.area.grid in
-    let k = known (goal.at.returns c).After-people_of-ring in
+    let r = (goal.at.returns c).After-people_of-ring in
+    let k = known r in
     -- the people and V of the next set
     let n = c.next_people-next.ensures ∙ k.next in
     let v = valued m (step a.self.grow f (ring_of m a.self.grow f)) c.value.result.0 c.next_people-next.result.0 c.value.ensures n in
     let room : fits grid.rows grid.columns (length c.form.new.mask) ≡ true =
     ap (λ (s : ℕ). fits grid.rows grid.columns s) c.form.auto.mask ∙ w.masked in
     round-made m a.self.share.0 a.self.grow a.mask.now c.form.new.mask w.plain (marks-are w a.self.grow c.form.new.mask c.form.ensures)
-    (λ e. eqb-false c.value-v.result.0 a.self.share.0 (sym c.eq.ensures ∙ c.if-eq.false) (valued m f c.value-v.result.0 a.sum.0 c.value-v.ensures k.set ∙ e)) c.next_people-next.result c.settle.new.mask
+    (unequal r) c.next_people-next.result c.settle.new.mask
     (sym (c.in_share.ensures ∙ ap (λ (u : ℕ). in_share a.self.grow u a.self.share.0) v) ∙ c.if-not-in_share.false) n
     (λ i. c.settle.ensures i ∙ rw (room, c.from.ensures, byte-of a.self.grow))
