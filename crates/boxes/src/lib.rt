@@ -9,7 +9,8 @@ pub mod rows;
 pub use rows::{RowCounts, count_row};
 
 // Boxes, each with its width in MHz: the souths at 0, the norths at count, the wests at 2 * count and the easts at 3 * count.
-// Kept packed, so that a loop over boxes takes several at once: for 25,000 points and 64 boxes an array of structs took 1,590 us, this 510.
+// Kept packed, as the definitions read them, so that a loop takes several boxes at once: for 25,000 points and 64 boxes an array of structs
+// took 1,590 us, this 510.
 #[derive(Clone, Copy)]
 pub struct Boxes {
     pub count: usize,
@@ -19,7 +20,7 @@ pub struct Boxes {
 }
 
 // The cells of a row, which are the first count of the three arrays.
-// Kept as three arrays with a count: there is no heap, and a loop over one field takes several cells at once.
+// Kept as three arrays with a count: there is no heap, and a loop over one field takes several cells at once, as with boxes above.
 #[derive(Clone, Copy)]
 pub struct Row {
     pub people: [u32; 256],
@@ -30,7 +31,7 @@ pub struct Row {
 }
 
 // The edges of a box.
-// Kept beside the register's GeoBox, which is above this crate: these are four numbers out of the packed edges.
+// Kept beside the register's GeoBox: that one is a licence's ground in document 01's terms, and this four numbers out of the packed edges.
 #[derive(Clone, Copy)]
 struct Edges {
     south: i32,

@@ -106,7 +106,8 @@ fn is_apart(edges: Edges, outline: Outline) -> bool
         | (edges.east <= outline.longitudes.least)
 }
 
-// Kept as a clause of three functions: that the people of a row are few is known once its limits are tested, so it is no fact of a Row.
+// Kept as a clause of three functions: that a row's people are few is known once its limits are tested, after its outline is made, so it is
+// a fact of neither.
 // The cells that pass a test, and their people: a product with 0 or 1 and no branch, so that the loop can take several cells at once.
 fn count_under<F: Fn(i32, i32) -> bool>(row: &Row, covers: F) -> Under
     requires can { F.IsAlwaysCallable covers }

@@ -130,7 +130,7 @@ pub fn proposed(rt: &impl Print, answer: Result<Proposal, ProposalRefusal>) -> i
 }
 
 // What an area is given.
-// Kept as lines of these programs: a Display of `Gets` in the engine would be a second place of its words.
+// Kept as lines of these programs, which print numbers: a Display of `Gets` in the engine would be words that nothing else there prints.
 fn given(rt: &impl Print, a: AreaAnswer) -> io::Result<()> {
     print(rt, " area", u64::from(a.number))?;
     print(rt, "  blocks", a.blocks)?;

@@ -64,6 +64,10 @@ holding_of licences a = record {
   cells = record { 0 = sum_of_cells licences a };
 }
 
+-- c and the sum of cells of an area that has them
+abbrev pub sums_of_holding : Holding → CoverageSums
+sums_of_holding h = record { mhz_pops = h.covered; cells = h.cells }
+
 -- the areas of a map, each with its c
 abbrev pub holdings_of : List Licence → List Area → List Holding
 holdings_of licences areas = map (holding_of licences) areas

@@ -8,7 +8,7 @@ ghost use Rattle.std.specs.Prelude.{◌≡◌, ◌≤◌, cond, take};
 ghost use Rattle.map.specs.Format.{read_map};
 ghost use Rattle.map.specs.Answers.{sought_means, seek};
 ghost use Rattle.register.specs.Licences.{in_force};
-ghost use Rattle.coverage.specs.Cover.{holding_of};
+ghost use Rattle.coverage.specs.Cover.{holding_of, sums_of_holding};
 ghost use Rattle.coverage.specs.Blocks.{blocks_of};
 ghost use Rattle.coverage.specs.Limits.{Limits, in_limits, sums_by, HoldingDone};
 ghost use Rattle.coverage.specs.Answers.{no_blocks, coverage_at, blocks_at, answer_of};
@@ -46,7 +46,7 @@ pub struct CoverageSums {
 
 // The areas of a map: the first count of areas, with their c, and the first count of stands, with where their rows stand, so that
 // the cells of one area are read without the others.
-// Kept as two arrays with a count: the engine has no heap, and a proposal is made of the slice of areas alone.
+// Kept as two arrays with a count: the engine has no heap, and an ArrayVec is not copied as this is; a proposal is made of the areas alone.
 #[derive(Clone, Copy)]
 pub struct Holdings {
     pub count: usize,
@@ -131,6 +131,18 @@ impl CoverageSums {
     };
 }
 
+// c and the sum of cells of an area.
+impl From<Holding> for CoverageSums {
+    ghost from_gives = { λ h s. s ≡ sums_of_holding h };
+
+    fn from(h: Holding) -> CoverageSums {
+        CoverageSums {
+            mhz_pops: h.covered,
+            cells: h.cells,
+        }
+    }
+}
+
 impl Holdings {
     // The areas with their c.
     pub fn areas(&self) -> &[Holding]
@@ -186,10 +198,7 @@ pub fn coverage(map: &[u8], register: Register, number: u16) -> Result<CoverageS
 {
     match find_holding(map, register, number)? {
         None => Ok(CoverageSums::NONE),
-        Some(h) => Ok(CoverageSums {
-            mhz_pops: h.covered,
-            cells: h.cells,
-        }),
+        Some(h) => Ok(CoverageSums::from(h)),
     }
 }
 

@@ -93,7 +93,7 @@ fn share_in(areas: &[AreaAnswer]) -> Option<(usize, Weighted)>
 
 // The partial area of a proposal, by where its rows stand, and its share: stands are the areas of the map, at the same places as the
 // proposal's.
-// Kept as an array: it has an entry at each place that a proposal of any count has.
+// Kept as an array: it has an entry at each place of a proposal, by type, where of a slice that would be a clause.
 fn partial_area(p: &Proposal, stands: &[Area; 32]) -> Result<(Area, Weighted), FootprintRefusal>
     ensures { result ≡ part_by stands.now p.now.kind (shared_from 0 (each area_means (take p.now.count p.now.areas))) }
 {
@@ -153,7 +153,7 @@ fn outline(
 // The footprint of the partial area of the proposal with a draw, for a map and the licences in force: the number of that area. The mask
 // gets a byte for each place of the area, 1 in the footprint; the table is working store. The map is read once, and then the rows of that
 // area once more.
-// Kept as two parameters, here and in what is below: callers in C lend the mask and the table, each by itself.
+// Kept as parameters, here and in what is below: callers in C lend the map, the mask and the table and pass the register, each by itself.
 pub fn footprint(
     map: &[u8],
     register: Register,

@@ -17,24 +17,34 @@ const UNWRITTEN_BYTE: u8 = 9;
 // 777 is more than the places that a mask here can have, so a 777 that is left in a table was not written.
 const UNWRITTEN_ENTRY: u16 = 777;
 
-// How much a call is lent, and the entry of the table from which none may change.
+// What a call is lent: the first bytes of a mask, the first entries of a table, and the entry from which none may change.
 #[derive(Clone, Copy)]
 struct Lent {
+    mask: [u8; 64],
+    table: [u16; 4096],
     bytes: usize,
     entries: usize,
     from: usize,
+    ghost few: { (bytes ≤ 64) × (entries ≤ 4096) },
 }
 
 impl Lent {
-    // The three numbers at a position.
-    fn at(s: &[u8], at: usize) -> Lent
+    // What the three numbers at a position ask for, with nothing written: None where it is more than there is to lend.
+    fn at(s: &[u8], at: usize) -> Option<Lent>
         requires { at < 64 }
     {
-        Lent {
-            bytes: usize::from(u16_at(s, at)),
-            entries: usize::from(u16_at(s, at + 2)),
-            from: usize::from(u16_at(s, at + 4)),
+        let bytes = usize::from(u16_at(s, at));
+        let entries = usize::from(u16_at(s, at + 2));
+        if 64 < bytes || 4096 < entries {
+            return None;
         }
+        Some(Lent {
+            mask: [UNWRITTEN_BYTE; 64],
+            table: [UNWRITTEN_ENTRY; 4096],
+            bytes,
+            entries,
+            from: usize::from(u16_at(s, at + 4)),
+        })
     }
 }
 
@@ -68,7 +78,8 @@ fn play_all(rt: &impl Print, s: &[u8], start: Register) -> io::Result<Register> 
 
 // One case, by its first byte: M a map, G a grant without a width, W a grant with one, C a cancellation, E an empty register,
 // P proposals, F footprints, L a list of calls. Anything else ends the block, as does a case that isn't there whole.
-// Kept as a match, and as a clause here and in two cases: the letter in the file says what stands there, and a slice can't say that it has one.
+// Kept as a match, and no enum like Item of kept_holdings: there the letter tells how long an item is, here only playing a case does.
+// Kept as a clause here and in two cases: a slice can't say that it has a first byte.
 fn play(rt: &impl Print, s: &[u8], register: Register) -> io::Result<Played>
     requires { 0 < length s.now }
     ensures { IfOk result (λ done. (0 < done.used) × (done.used ≤ length s.now)) }
@@ -299,13 +310,11 @@ fn footprints(rt: &impl Print, s: &[u8], map: &[u8], register: Register) -> io::
 // One call: the draw, the bytes of the mask, the entries of the table, and the entry from which none may change. False where it
 // asks for more bytes or entries than there are to lend.
 fn outlined(rt: &impl Print, s: &[u8], map: &[u8], register: Register) -> io::Result<bool> {
-    let lent = Lent::at(s, 4);
-    let mut mask = [UNWRITTEN_BYTE; 64];
-    let mut table = [UNWRITTEN_ENTRY; 4096];
-    if 64 < lent.bytes || 4096 < lent.entries {
+    let Some(lent) = Lent::at(s, 4) else {
         line(rt, " too long")?;
         return Ok(false);
-    }
+    };
+    let (mut mask, mut table) = (lent.mask, lent.table);
     let mask = &mut mask[..lent.bytes];
     let table = &mut table[..lent.entries];
     let draw = u32_at(s, 0);
@@ -373,27 +382,17 @@ fn listed(rt: &impl Print, s: &[u8], map: &[u8], register: Register) -> io::Resu
         used: s.len(),
         register,
     };
-    let lent = Lent::at(s, 0);
     let count = usize::from(u16_at(s, 6));
     let end = 8 + 4 * count;
     if s.len() < end {
         return Ok(block_ends);
     }
     let words = words_in(&s[8..end]);
-    let mut mask = [UNWRITTEN_BYTE; 64];
-    let mut table = [UNWRITTEN_ENTRY; 4096];
-    if 64 < lent.bytes || 4096 < lent.entries || 1024 < count {
+    let (Some(lent), Some(words)) = (Lent::at(s, 0), words.get(..count)) else {
         line(rt, " too long")?;
         return Ok(block_ends);
-    }
-    let register = play_list(
-        rt,
-        map,
-        &words[..count],
-        &mut mask[..lent.bytes],
-        &mut table[..lent.entries],
-        lent.from,
-    )?;
+    };
+    let register = play_list(rt, map, words, lent)?;
     Ok(Played {
         used: end,
         register,
@@ -401,7 +400,7 @@ fn listed(rt: &impl Print, s: &[u8], map: &[u8], register: Register) -> io::Resu
 }
 
 // The words of a list; those past its end are 0, and are not lent.
-// Kept as an array: a list here has so many words at most, and nothing is to run out of memory.
+// Kept as an array: a list of the cases has so many words at most, and a Vec would bring a second way to fail, for want of memory.
 fn words_in(s: &[u8]) -> [u32; 1024] {
     let mut words = [0u32; 1024];
     for (word, bytes) in words.iter_mut().zip(s.chunks_exact(4)) {
@@ -412,18 +411,14 @@ fn words_in(s: &[u8]) -> [u32; 1024] {
 
 // How many calls of a list were made and refused, the mask that they leave, and how much of the table they leave as it was. Gives the
 // register after the last of them.
-fn play_list(
-    rt: &impl Print,
-    map: &[u8],
-    words: &[u32],
-    mask: &mut [u8],
-    table: &mut [u16],
-    from: usize,
-) -> io::Result<Register> {
+fn play_list(rt: &impl Print, map: &[u8], words: &[u32], lent: Lent) -> io::Result<Register> {
+    let (mut mask, mut table) = (lent.mask, lent.table);
+    let mask = &mut mask[..lent.bytes];
+    let table = &mut table[..lent.entries];
     print(rt, "list", words.len() as u64)?;
     let played = ledger::play(map, words, mask, table);
     print(rt, " calls", played.calls as u64)?;
     print(rt, " refused", played.refused as u64)?;
-    show_lent(rt, mask, table, from)?;
+    show_lent(rt, mask, table, lent.from)?;
     Ok(played.register)
 }

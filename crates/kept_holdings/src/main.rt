@@ -136,11 +136,12 @@ fn entry_at(s: &[u8]) -> Kept {
     }
 }
 
-// The u64 at a position of an item.
-fn u64_at(s: &[u8], at: usize) -> u64
-    requires { at < 32 }
-{
-    u64::from(u32_at(s, at)) + 4294967296 * u64::from(u32_at(s, at + 4))
+// The u64 at a position of an item, 0 past the end.
+fn u64_at(s: &[u8], at: usize) -> u64 {
+    match s.get(at..).and_then(|rest| rest.first_chunk()) {
+        Some(bytes) => u64::from_le_bytes(*bytes),
+        None => 0,
+    }
 }
 
 fn play_item(rt: &impl Print, item: Item, map: &[u8], both: Next) -> io::Result<Next> {

@@ -84,10 +84,11 @@ module _ (s : List ℕ) where
         same : ◌≡◌ {A = Read (List Cell)} (bad x) (bad f) → x ≡ f
         same v = cc
 
-    pub left-ends : {x : ℕ} → n ≤ k → (f : ℕ) → read_cells s n start ≡ bad f → x ≡ f
+    -- and where none is left, there is none
+    pub left-ends : n ≤ k → (f : ℕ) → read_cells s n start ≡ bad f → ⊥
     unfolding many
     left-ends h f e =
         none (sym (ap (λ (m : ℕ). many (λ _ a. read_cell s a) m k at) (sub-end n k h)) ∙ w.fault f e)
       where
-        none : {C : Type 0} → ◌≡◌ {A = Read (List Cell)} (good [] at) (bad f) → C
-        none v = absurd (let z : ◌≡◌ {A = ℕ} 0 1 = cc in omega arith)
+        none : ◌≡◌ {A = Read (List Cell)} (good [] at) (bad f) → ⊥
+        none v = let z : ◌≡◌ {A = ℕ} 0 1 = cc in omega arith

@@ -1,4 +1,5 @@
 // Fields of the map's bytes: each is its value with the position after it, or a fault.
+// Kept as bytes and a position, here and in parts: specs/Format.antt reads the map by position, so each clause would take a cursor of both apart.
 ghost use Rattle.std.specs.Prelude.{◌≡◌, ◌+◌, ◌≤◌, length, nat_le, IfOk};
 ghost use Rattle.units.specs.Coordinates.{within_z};
 ghost use Rattle.map.specs.Format.{number_at, unsigned_field, i32_field, size_field, number_field};

@@ -39,6 +39,7 @@ impl From<Fault> for u32 {
 }
 
 // The head of an area, and where its rows stand: the bytes from start to before end.
+// Kept with the head's fields in it: they are open to callers, who may make any, where a Head's own fact says that its sizes are few.
 #[derive(Clone, Copy)]
 pub struct Area {
     pub number: u16,

@@ -1,5 +1,6 @@
 // What the crates above read of a map from a position: places, and areas with what is counted over their cells. No way in for users.
-ghost use Rattle.std.specs.Prelude.{◌≡◌, ℕ, ◌+◌, ◌-◌, ◌*◌, ◌/◌, ◌<◌, ◌≤◌, List, [], length, IfOk};
+// Kept as bytes and a position, here and in fields: specs/Format.antt reads the map by position, so each clause would take a cursor of both apart.
+ghost use Rattle.std.specs.Prelude.{◌≡◌, ℕ, ◌+◌, ◌-◌, ◌*◌, ◌/◌, ◌<◌, ◌≤◌, List, [], length, IfOk, IsErrAnd};
 ghost use Rattle.boxes.specs.Boxes.{edges_of};
 ghost use Rattle.map.specs.Reading.{bad, map_read};
 ghost use Rattle.map.specs.Cells.{read_cells};
@@ -92,7 +93,7 @@ pub fn place(s: &[u8], bits: usize, j: usize, at: usize) -> Result<(Option<Cell>
 // Whether the bits from .. to of a bit map are 0.
 #[tactic(auto, using(crate::proofs::LoopLaws::clear_step), unfolding(crate::specs::Format::clear_from))]
 fn clear(s: &[u8], bits: usize, from: usize, to: usize) -> bool
-    requires { (from ≤ to) × (bits + (to + 7) / 8 ≤ length s.now) × (to ≤ 256) }
+    requires { bits + (to + 7) / 8 ≤ length s.now }
     ensures { result ≡ clear_from s.now bits from (to - from) }
 {
     for j in from..to {
@@ -103,19 +104,16 @@ fn clear(s: &[u8], bits: usize, from: usize, to: usize) -> bool
     true
 }
 
-// The first fault of n cells from a position on, in byte order; of cells without one it says nothing.
-fn first_fault(s: &[u8], start: usize, n: usize) -> Fault
-    requires { n ≤ 256 }
-    ensures { (f : ℕ) → read_cells s.now n start ≡ bad f → fault_number result ≡ f }
+// The first fault of n cells from a position on, in byte order, if there is one.
+fn first_fault(s: &[u8], start: usize, n: usize) -> Result<(), Fault>
+    ensures { (f : ℕ) → read_cells s.now n start ≡ bad f → IsErrAnd result (λ e. fault_number e ≡ f) }
 {
     let mut at = start;
     for _ in 0..n {
-        match cell_at(s, at) {
-            Err(f) => return f,
-            Ok((_, next)) => at = next,
-        }
+        let (_, next) = cell_at(s, at)?;
+        at = next;
     }
-    Fault::Ends
+    Ok(())
 }
 
 // The n cells of a row that stand in the map from a position on, under no box, so whatever the widths.
@@ -160,27 +158,27 @@ fn boxed_row(
 // A row: its bit map, which tells how many cells there are, then its cells. What the cells' arrays hold before counts for nothing.
 fn row(
     s: &[u8],
-    columns: usize,
+    h: Head,
     at: usize,
     boxes: &Boxes,
     cells: &mut boxes::Row,
 ) -> Result<(Counts, usize), Fault>
-    requires { columns ≤ 256 }
     ensures value { read_means result
-        ≡ map_read (row_counts (edges_of boxes.now) boxes.now.widths) (read_row s.now columns at) }
-    ensures small { IfOk result (λ t. Small columns t.0) }
+        ≡ map_read (row_counts (edges_of boxes.now) boxes.now.widths) (read_row s.now h.columns at) }
+    ensures small { IfOk result (λ t. Small h.columns t.0) }
 {
-    let w = (columns + 7) / 8;
+    let w = (h.columns + 7) / 8;
     if !fields::has_room(s, at, w) {
         return Err(Fault::Ends);
     }
-    if !clear(s, at, columns, w * 8) {
+    if !clear(s, at, h.columns, w * 8) {
         return Err(Fault::Limit);
     }
     let n = rows::cells_in(s, at, w);
     let start = at + w;
     if !fields::has_room(s, start, 12 * n) {
-        return Err(first_fault(s, start, n));
+        first_fault(s, start, n)?;
+        return Err(Fault::Ends);
     }
     if boxes.count == 0 {
         return bare_row(s, start, n);
@@ -197,7 +195,7 @@ fn walk(s: &[u8], h: Head, start: usize, boxes: &Boxes) -> Result<(Counts, usize
     let mut at = start;
     let mut sum = Counts::NONE;
     for _ in 0..h.rows {
-        let (counts, next) = row(s, h.columns, at, boxes, &mut cells)?;
+        let (counts, next) = row(s, h, at, boxes, &mut cells)?;
         sum = sum.plus(counts);
         at = next;
     }

@@ -1,6 +1,6 @@
 -- Laws of the loops that lay places into the three lists. Assumes nothing.
 use Prim.Native.Nat.{ℕ, ◌+◌, ◌-◌, ◌*◌, ◌/◌, ◌%◌, ◌≤◌, ◌<◌}
-use mathlib.Core.Path.{◌≡◌, sym, ap, ◌∙◌, subst}
+use mathlib.Core.Path.{◌≡◌, refl, sym, ap, ◌∙◌, subst}
 use mathlib.Core.List.{List, []}
 use mathlib.Core.Bool.{Bool, cond}
 use native.Mathlib.Omega.{arith}
@@ -200,16 +200,15 @@ place-in-row grid r columns at j e h =
     (λ i. get_or (get_or grid (sym d i) []) (sym m i) gap)
 
 -- the invariant at row r, whose first place has the number `at`
-pub record LayingRows (s : List ℕ) (columns rows start always : ℕ) (edges : List ℤ) (before now : Lists) (next at r : ℕ) : Type 0 where
+pub record LayingRows (s : List ℕ) (columns rows start always : ℕ) (edges : List ℤ) (before now : Lists) (next r : ℕ) : Type 0 where
   pub grid : List (List Place)
   pub end : ℕ
   pub reads : read_rows s columns rows start ≡ good grid end
   pub walk : Left (λ (_ a : ℕ). read_row s columns a) rows grid end r next
-  pub place : at ≡ r * columns
-  pub laid : Laying (place_of grid columns) (rows * columns) always edges before now at
+  pub laid : Laying (place_of grid columns) (rows * columns) always edges before now (r * columns)
 
 pub rows_start : {s : List ℕ} {columns rows start always : ℕ} {edges : List ℤ} {l : Lists} → IsGood (read_rows s columns rows start)
-    → LayingRows s columns rows start always edges l l start 0 0
+    → LayingRows s columns rows start always edges l l start 0
 rows_start {s} {columns} {rows} {start} h =
     let g = given (read_rows s columns rows start) h in
     record {
@@ -217,8 +216,7 @@ rows_start {s} {columns} {rows} {start} h =
       end = g.next;
       reads = g.is;
       walk = left-starts (λ (_ a : ℕ). read_row s columns a) rows start g.is;
-      place = sym (zero-mul columns);
-      laid = lay-starts;
+      laid = rw (zero-mul columns) lay-starts;
     }
 
 module _
@@ -226,15 +224,19 @@ module _
     {columns rows start always : ℕ}
     {edges : List ℤ}
     {before now : Lists}
-    {next at r : ℕ}
-    (c : LayingRows s columns rows start always edges before now next at r)
+    {next r : ℕ}
+    (c : LayingRows s columns rows start always edges before now next r)
   where
+    -- the row's first place
+    abbrev at : ℕ
+    at = r * columns
+
     -- the row is read, and there is room for it
     pub row-good : r < rows → IsGood (read_row s columns next)
     row-good h = subst IsGood (sym (left-turns c.walk [] h).is) tt
 
     pub row_fits : r < rows → at + columns ≤ rows * columns
-    row_fits h = (row_ends r rows columns at c.place h).0
+    row_fits h = (row_ends r rows columns at refl h).0
 
     pub row_room : r < rows → Room (rows * columns) before → Room (at + columns) now
     row_room h l =
@@ -256,7 +258,7 @@ module _
 
     pub rows-turn : (part : Lists) {after : ℕ} → r < rows → Room (rows * columns) before → SameLengths part (part_from at now)
         → RowLaid (read_row s columns next) columns always edges (part_from at now) part after
-        → LayingRows s columns rows start always edges before (back at now part) after (at + columns) (r + 1)
+        → LayingRows s columns rows start always edges before (back at now part) after (r + 1)
     rows-turn part {after} h l k e =
         let t = left-turns c.walk [] h in
         let laid = subst (λ (x : Read (List Place)). RowLaid x columns always edges (part_from at now) part after) t.is e in
@@ -265,13 +267,13 @@ module _
           end = c.end;
           reads = c.reads;
           walk = subst (Left (λ (_ a : ℕ). read_row s columns a) rows c.grid c.end (r + 1)) (sym laid.1) t.after;
-          place = (row_ends r rows columns at c.place h).1;
-          laid = lay-row c.laid part columns (row_fits h) l k laid.0 (λ j o. place-in-row c.grid r columns at j c.place o);
+          laid = rw (row_ends r rows columns at refl h).1 at
+              (lay-row c.laid part columns (row_fits h) l k laid.0 (λ j o. place-in-row c.grid r columns at j refl o));
         }
 
     pub rows_end : rows ≤ r → LaidOut (read_rows s columns rows start) columns rows always edges before now
     rows_end h =
         let all : r ≡ rows = omega (arith, c.walk.inside) in
-        let e : at ≡ rows * columns = c.place ∙ ap (λ (k : ℕ). k * columns) all in
+        let e : at ≡ rows * columns = ap (λ (k : ℕ). k * columns) all in
         subst (λ (x : Read (List (List Place))). LaidOut x columns rows always edges before now) (sym c.reads)
         (lay-ends c.laid (omega arith))

@@ -11,6 +11,7 @@ use boxes::Boxes;
 use map::Area;
 
 // What is laid for a place: its people, 1 if it has a cell, and 1 if a licence covers the cell.
+// Kept as the three numbers that are written, and no Option of a cell, which each list would take apart again.
 #[derive(Clone, Copy)]
 struct Shown {
     people: u32,
@@ -49,7 +50,8 @@ fn show(map: &[u8], bits: usize, j: usize, at: usize, always: u32, boxes: &Boxes
 
 // Lays the row at a position from the first place of the three lists onward, and hands back the position after the row.
 // Kept as three parameters, here and in lay_out: of a struct of three lent parts a contract reads `lists.exit.1.1.0.now` for `mask.new`.
-// Kept as a clause, here, in lay_out and in map's row: the sizes of an Area are any, and only a Head's are known to be few.
+// Kept as a clause, here and in lay_out: callers may make an Area of any sizes, and only a Head's are known to be few.
+// Kept as two parameters: `boxes` is lent and `always` counted apart, and a struct of both would be taken apart by the definitions.
 fn lay_row(
     map: &[u8],
     columns: usize,
@@ -97,8 +99,8 @@ pub fn lay_out(
         (record { people = people.new; cells = cells.new; mask = mask.new }) }
 {
     let mut from = area.start;
-    let mut at = 0;
-    for _ in 0..area.rows {
+    for r in 0..area.rows {
+        let at = r * area.columns;
         from = lay_row(
             map,
             area.columns,
@@ -109,6 +111,5 @@ pub fn lay_out(
             &mut cells[at..],
             &mut mask[at..],
         );
-        at += area.columns;
     }
 }

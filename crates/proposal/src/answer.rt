@@ -6,7 +6,7 @@ use search::Kind;
 use units::Weighted;
 
 // The kind, T, white space, the tied count and the map's areas, which are the first count of areas.
-// Kept as an array with a count: the engine has no heap to collect them on.
+// Kept as an array with a count, like Holdings: the engine has no heap to collect them on, and an ArrayVec is not copied as this is.
 #[derive(Clone, Copy)]
 pub struct Proposal {
     pub kind: Kind,

@@ -12,7 +12,7 @@ use search::{Kind, Partial};
 use units::{Amount, Weighted};
 
 // The partial areas, which are the first count of areas, and the sum of their values.
-// Kept as an array with a count: the engine has no heap to collect them on.
+// Kept as an array with a count, as in a proposal: the engine has no heap to collect them on.
 #[derive(Clone, Copy)]
 pub struct Partials {
     pub count: usize,
@@ -66,7 +66,7 @@ fn gather(areas: &[Holding]) -> Partials
         if 0 < b.size.0 {
             partials[n] = Partial {
                 size: b.size,
-                weight: a.weight,
+                weight: u64::from(a.weight),
             };
             target = target.plus(b.value);
             n += 1;
@@ -81,7 +81,7 @@ fn gather(areas: &[Holding]) -> Partials
 
 // What each area is given, one area a turn, and its sum of cells. The entry and the set number that the search found are used up from
 // their first place.
-// Kept as an array: there is no heap to collect the areas on.
+// Kept as an array, the one that a proposal holds: there is no heap to collect the areas on.
 fn settle(
     areas: &[Holding],
     kind: Kind,

@@ -4,16 +4,14 @@ use Rattle.std.specs.List.{find}
 use Rattle.units.specs.Sums.{capped}
 use Rattle.coverage.specs.declared.Holding.{Holding}
 use Rattle.coverage.specs.declared.CoverageSums.{CoverageSums}
+use Rattle.coverage.specs.Cover.{sums_of_holding}
 use Rattle.records.specs.declared.Kept.{Kept}
 use Rattle.records.specs.declared.Record.{Record}
 use Rattle.records.specs.Record.{with_sums, changed}
 
 -- the sums of the first area that has the number
-abbrev pub sums_of : Holding → CoverageSums
-sums_of h = record { mhz_pops = h.covered; cells = h.cells }
-
 abbrev pub sums_in : (number : ℕ) → List Holding → Option CoverageSums
-sums_in number areas = option_map sums_of (find (λ h. eqb h.number number) areas)
+sums_in number areas = option_map sums_of_holding (find (λ h. eqb h.number number) areas)
 
 -- an entry with sums added to its own, or subtracted
 abbrev pub plus_sums : CoverageSums → Kept → Kept

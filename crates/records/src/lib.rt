@@ -269,8 +269,6 @@ fn sums_in(areas: &[Holding], number: u32) -> Option<CoverageSums>
     areas
         .iter()
         .find(|h| u32::from(h.number) == number)
-        .map(|h| CoverageSums {
-            mhz_pops: h.covered,
-            cells: h.cells,
-        })
+        .copied()
+        .map(CoverageSums::from)
 }

@@ -225,7 +225,8 @@ not-reached zero s ps = refl
 not-reached (suc i) s [] = refl
 not-reached (suc i) s (p ∷ ps) = not-reached i s ps
 
--- a walk over the places that frees those of a call sign: the first i are released, and whether one of them had it is told
+-- a walk over the places that frees those of a call sign: the first i are released; `any` says that a place had it only if one had, and
+-- that none had it only if none of these had
 pub record Walked (s : ℕ) (old now : List FlatLicence) (any : Bool) (i : ℕ) : Type 0 where
   pub released : now ≡ release_to i s old
   pub yes : any ≡ true → stands s old ≡ true

@@ -54,7 +54,7 @@ GrantDone old l r = GrantStep old l (granted_step old r)
 abbrev pub CancelDone : Register → ℕ → Result Register NotInForce → Type 0
 CancelDone old s r = CancelStep old s (cancelled_step old r)
 
--- what a call comes to that changes its own register
+-- the step that a call makes in its own register
 abbrev pub step_to : {A E : Type 0} → (E → ℕ) → Register → Result A E → Step
 step_to number next r = record { next = next; refusal = refusal_of number r }
 

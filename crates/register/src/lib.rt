@@ -55,6 +55,7 @@ pub struct FlatLicence {
 }
 
 // A register has a place for each licence in force. A place with call sign 0 is free.
+// Kept as that number and no Option: the C interface and kept registers have this layout.
 #[repr(C)]
 #[derive(Clone, Copy)]
 pub struct Register {
@@ -293,6 +294,7 @@ impl Register {
     }
 
     // So does a cancellation.
+    // Kept beside grant_step: a function over both answers, generic in the refusal, would carry a clause longer than these two lines.
     pub fn cancel_step(mut self, call_sign: u32) -> Step
         ensures { CancelStep self call_sign result }
     {
@@ -304,6 +306,7 @@ impl Register {
     }
 
     // A register of just what a cancellation strikes, at its first places, so that few boxes are held against the cells of a map.
+    // Kept as a count: which place comes next shows in the data alone, and a zip of the places with those that pass would say it no plainer.
     pub fn struck(self, call_sign: u32) -> Register
         ensures { SameLicences (in_force result.places) (struck call_sign (in_force self.places)) }
     {
@@ -355,7 +358,7 @@ impl Register {
         Ok(())
     }
 
-    // So does a cancellation.
+    // A cancellation in this register itself, which stays as it is where the call sign is not in force.
     fn free(&mut self, call_sign: u32) -> Result<(), NotInForce>
         ensures { CancelStep self.old call_sign (step_to cancel_number self.new result) }
     {
@@ -388,7 +391,7 @@ impl Register {
         call_sign != 0 && self.places.iter().any(|p| p.call_sign == call_sign)
     }
 
-    // Frees the places of a call sign, and says whether a licence in force has it.
+    // Frees the places of a call sign, and says whether a licence in force had it.
     fn release(&mut self, call_sign: u32) -> bool
         requires { 0 < call_sign }
         ensures told { result ≡ held call_sign (in_force self.old.places) }

@@ -115,7 +115,7 @@ module _ (pass : Pass) (cells : Places) (n columns : ℕ) {before now : List ℕ
 row-room : (rows columns r : ℕ) {bytes : ℕ} → rows * columns ≤ bytes → r < rows → r * columns + columns ≤ bytes
 row-room rows columns r long h = omega (arith, (row_ends r rows columns (r * columns) refl h).0)
 
--- as it does where the grid fits
+-- as it does where the grid fits, whose columns and starts of rows are few
 pub row_fits : (rows columns r bytes : ℕ) → fits rows columns bytes ≡ true → r < rows
     → (r * columns + columns ≤ bytes) × (r * columns ≤ 65536) × (columns ≤ 256)
 row_fits rows columns r bytes e h =
@@ -135,7 +135,7 @@ row-next rows columns r w long h g part kept put inside past =
     rw (row_ends r rows columns (r * columns) refl h).1 at
     (row-turns w g part columns (row-room rows columns r long h) kept put inside past)
 
--- rows are turned one by one where the callee turns each byte of a row: byte i of n to what `to` makes of it, none past them
+-- one more row is turned, by a callee that turns byte i of n to what `to` makes of it, and no byte past them
 pub row-turned : (turn : (n i b : ℕ) → ℕ) (to : ℕ → ℕ)
     → ((n i b : ℕ) → i < n → turn n i b ≡ to b) → ((n i b : ℕ) → n ≤ i → turn n i b ≡ b)
     → {before now : List ℕ} (rows columns r : ℕ) → fits rows columns (length before) ≡ true → r < rows

@@ -57,7 +57,9 @@ struct Place<'a> {
 }
 
 // Puts 2 at the places of the ring, and changes no other byte. Nothing is done where the mask or the cells are too short.
-// Kept: `grow` is a flag, since document 01 says that F grows or shrinks, and the crate above computes it by a test, V < share.
+// Kept as two parameters, cells and grid, here and below: the crate above holds both in its Area, and a second struct of them would be
+// made of that one for each ring.
+// Kept: `grow` is a flag, since the crate above computes it by document 01's test, V < share; an enum would be turned back into that test.
 #[tactic(auto, unfolding(crate::specs::Code::to_mark, crate::specs::Ring::ring))]
 pub fn form(mask: &mut [u8], cells: &[u8], grid: Grid, grow: bool)
     ensures { (i : ℕ) →
@@ -95,7 +97,7 @@ pub fn settle(mask: &mut [u8], grid: Grid, to: u8)
 }
 
 // Turns every byte of the area to 0.
-// Kept beside settle: the two differ in their row writer, and a closure over one would carry its contract for a line less.
+// Kept beside settle: document 01 wants a row writer for each row, and a closure over both would carry two contracts for a line less.
 #[tactic(auto, using(crate::proofs::MarkLaws::row_fits, lists::proofs::InPlace::part_room))]
 pub fn wipe(mask: &mut [u8], grid: Grid)
     ensures { (i : ℕ) →

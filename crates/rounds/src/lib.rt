@@ -30,7 +30,7 @@ pub enum MakeRefusal {
 }
 
 // A course of rounds in an area within the limits, towards a share: the set grows, or it shrinks.
-// Kept as a test: document 01 compares V with the share, and its definitions take `grow` as the outcome.
+// Kept as a test: document 01 compares V with the share, its definitions take the outcome, and an enum would be turned back into it there.
 #[derive(Clone, Copy)]
 struct Course<'a> {
     area: Area<'a>,
@@ -105,7 +105,8 @@ impl Area<'_> {
         0 < share.0 && share < self.value(self.people_of(self.cells, 1))
     }
 
-    // The people of the places whose byte is the one given. Those of a place are read whatever its byte, so that several are added at once.
+    // The people of the places whose byte is the one given. The people of a place are read whatever its byte, so that several are added at
+    // once: over 193 rings a zip that adds where the byte is right took a tenth longer.
     fn people_of(self, bytes: &[u8], byte: u8) -> People
         requires { Countable bytes.now self.people.now (self.grid.rows * self.grid.columns) }
         ensures { result.0 ≡ people_with bytes.now self.entry.people.now (self.entry.grid.rows * self.entry.grid.columns) byte }
@@ -119,7 +120,7 @@ impl Area<'_> {
     }
 
     // "V of a set is 100 × weight × its people".
-    // Kept as a clause, here, in next_people, slack and finish: People is a unit of any count, and only those of one area are so few.
+    // Kept as a clause, here, in next_people, slack and finish: People is a unit of any count, and a type for an area's would need its own sums.
     fn value(self, people: People) -> Weighted
         requires { (people.0 ≤ 65535 * 1000000) × (self.weight ≤ 65535) }
         ensures { result.0 ≡ 100 * self.entry.weight * people.0 }

@@ -18,7 +18,7 @@ use units::Weighted;
 #[derive(Clone, Copy)]
 pub struct Partial {
     pub size: Weighted,
-    pub weight: u32,
+    pub weight: u64,
 }
 
 // "kind (1 exact, 2 rounded up, 3 one part)".
@@ -42,10 +42,11 @@ impl From<Kind> for u32 {
 pub struct Rank {
     pub far: bool,
     pub white: u64,
-    pub weight: u32,
+    pub weight: u64,
 }
 
 // What an entry of the table holds: the least white space, then the smallest set number.
+// Kept without an Option: an entry starts with as much white space as no allowed choice has, where None would come first in the order.
 #[derive(Clone, Copy, Debug, PartialEq, Eq, PartialOrd, Ord)]
 pub struct Held {
     pub white: u64,
@@ -53,7 +54,7 @@ pub struct Held {
 }
 
 // The rank of a choice by its partial area's size, its white space and that area's weight.
-fn rank_of(size: u64, white: u64, weight: u32) -> Rank
+fn rank_of(size: u64, white: u64, weight: u64) -> Rank
     requires { (size ≤ largest_size) × (white ≤ size) }
     ensures { result ≡ rank_of size white weight }
 {
@@ -79,7 +80,7 @@ fn ahead(a: Rank, b: Rank) -> bool
     if b.white < a.white {
         return false;
     }
-    a.white * u64::from(b.weight) < b.white * u64::from(a.weight)
+    a.white * b.weight < b.white * a.weight
 }
 
 // An allowed choice: its entry holds the lesser of what it held and this one.

@@ -77,7 +77,8 @@ fn weigh(mark: u8, people: u32) -> usize
     if mark == 2 { people as usize } else { 0 }
 }
 
-// Kept as parameters, here and in `choose`: a struct of what leave_out is lent would be made once, to be taken apart in its two callees.
+// Kept as parameters, here and in `choose`: a struct of what leave_out is lent would be made once, to be taken apart in its two callees; and
+// `n` and `slack` beside slices, since the definitions speak of them as amounts.
 // Takes the places in turn, until the sum slack is reached or there are no more, and returns how many it took.
 fn fill(mask: &[u8], people: &[u32], n: usize, slack: usize, table: &mut [u16]) -> usize
     requires { Room 65535 (length mask.now) (length people.now) n slack (length table.old) }

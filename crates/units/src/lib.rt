@@ -57,7 +57,7 @@ pub trait Amount: Copy {
     }
 }
 
-// Kept as four impls, alike but for the type: an impl that a macro of the repository writes is not accepted.
+// Kept as four impls, alike but for the type: document 01 wants a tuple struct for each unit, and an impl that a macro writes is not accepted.
 impl Amount for People {
     ghost count = { λ amount. amount.0 };
 

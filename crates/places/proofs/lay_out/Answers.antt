@@ -1,5 +1,5 @@
 -- `places::lay_out`: one row a turn, laid into the parts of the lists from its first place on. Assumes nothing.
-use Prim.Native.Nat.{◌+◌, ◌≤◌, ◌<◌, ℕ}
+use Prim.Native.Nat.{◌+◌, ◌*◌, ◌≤◌, ◌<◌, ℕ}
 use mathlib.Core.List.{List}
 use lib.IntN.{ℤ}
 use native.Mathlib.Omega.{arith}
@@ -14,34 +14,33 @@ small :
     {columns rows start always : ℕ}
     {edges : List ℤ}
     {before now : Lists}
-    {next at r : ℕ}
-    (l : LayingRows s columns rows start always edges before now next at r)
-    → r < rows → columns ≤ 256 → rows ≤ 256 → at + columns ≤ 65536
+    {next r : ℕ}
+    (l : LayingRows s columns rows start always edges before now next r)
+    → r < rows → columns ≤ 256 → rows ≤ 256 → r * columns + columns ≤ 65536
 small l h a b = omega (arith, row_fits l h, mul-le-mul b a)
 
-pub loop-init : goal.loop-init
-loop-init c = rows_start c.requires.0
+pub loop-r-init : goal.loop-r-init
+loop-r-init c = rows_start c.requires.0
 
 pub lay_row-from-requires : goal.lay_row-from-requires
 lay_row-from-requires c =
-    let l = c.loop in
+    let l = c.loop-r in
     let p = c.requires in
-    let h = c.loop-test.true in
+    let h = c.loop-r-test.true in
     let r = part_room l.invariant h (record { people = p.3; cells = p.4; mask = p.5 }) in
     (row-good l.invariant h, p.1, r.people, r.cells, r.mask)
 
-pub overflow_add-at : goal.overflow_add-at
-overflow_add-at c =
-    let p = c.requires in
-    record { fits = omega (arith, small c.loop.invariant c.loop-test.true p.1 p.2) }
+pub overflow_mul-at : goal.overflow_mul-at
+overflow_mul-at c =
+    let p = c.requires in omega (arith, small c.loop-r.invariant c.loop-r-test.true p.1 p.2)
 
-pub loop-preserved : goal.loop-preserved
-loop-preserved c =
+pub loop-r-preserved : goal.loop-r-preserved
+loop-r-preserved c =
     let p = c.requires in
     let z = c.lay_row-from in
-    rows-turn c.loop.invariant (record { people = z.new.people; cells = z.new.cells; mask = z.new.mask }) c.loop-test.true
+    rows-turn c.loop-r.invariant (record { people = z.new.people; cells = z.new.cells; mask = z.new.mask }) c.loop-r-test.true
     (record { people = p.3; cells = p.4; mask = p.5 })
     (record { people = z.auto.people; cells = z.auto.cells; mask = z.auto.mask }) z.ensures
 
 pub returns : goal.returns
-returns c = rows_end c.loop.invariant c.loop-test.false
+returns c = rows_end c.loop-r.invariant c.loop-r-test.false

@@ -1,5 +1,4 @@
 -- `search::ahead`: its tests are the definition's, in order; the products across fit a u64 by the limits. Assumes nothing.
-use Prim.Native.Nat.{◌≤◌}
 use native.Mathlib.Nat.{mul-le-mul}
 use native.Mathlib.Omega.{arith}
 use Rattle.std.proofs.lemmas.Bool.Decides.{nat_tests}
@@ -21,15 +20,11 @@ returns-then-b-a c = far-level c.args.a.far c.args.b.far _ _ c.if-a-b.false (gri
 
 pub overflow_mul-result : goal.overflow_mul-result
 overflow_mul-result c =
-    let p = c.requires in
-    let w : c.from.result ≤ 65535 = omega (arith, p.1.weight) in
-    omega (arith, mul-le-mul p.0.white w)
+    let p = c.requires in omega (arith, mul-le-mul p.0.white p.1.weight)
 
 pub overflow_mul-result-2 : goal.overflow_mul-result-2
 overflow_mul-result-2 c =
-    let p = c.requires in
-    let w : c.from-2.result ≤ 65535 = omega (arith, p.0.weight) in
-    omega (arith, mul-le-mul p.1.white w)
+    let p = c.requires in omega (arith, mul-le-mul p.1.white p.0.weight)
 
 pub returns : goal.returns
 unfolding ahead
