@@ -212,10 +212,7 @@ pub fn codwalet_cancel(current: Register, call_sign: u32) -> Step
 pub fn codwalet_check_map(map: &[u8]) -> u32
     ensures { result ≡ number_of (read_map map.now) }
 {
-    match map::check(map) {
-        Ok(()) => 0,
-        Err(fault) => u32::from(fault),
-    }
+    map::check(map).map_or_else(u32::from, |()| 0)
 }
 
 // The area with a number.

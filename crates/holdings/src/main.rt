@@ -129,10 +129,7 @@ fn map_case(rt: &impl Print, s: &[u8]) -> io::Result<usize>
     let Some(map) = map_in(s) else {
         return Ok(s.len());
     };
-    let refusal = match map::check(map) {
-        Ok(()) => 0,
-        Err(fault) => u32::from(fault),
-    };
+    let refusal = map::check(map).map_or_else(u32::from, |()| 0);
     print(rt, "map", u64::from(refusal))?;
     let end = 4 + map.len();
     Ok(end + look_ups(rt, &s[end..], map)?)
