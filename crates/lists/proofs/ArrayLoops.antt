@@ -4,7 +4,7 @@ use mathlib.Core.Path.{◌≡◌, refl, sym, ap, ◌∙◌}
 use mathlib.Core.List.{List, [], ◌∷◌, ◌++◌, map, map-append}
 use native.Mathlib.Numerals.{add-one}
 use native.Mathlib.Omega.{arith}
-use lib.ListN.{length, get_or, take, drop, set, length-set, length-map}
+use lib.ListN.{length, get_or, take, drop, set, length-set, length-map, length-append, take-append-drop}
 use lib.Seq.{take-suc, take-suc-set, take_all, append_snoc, set_at, get_or-append_seam}
 use Rattle.lists.proofs.SumLaws.{drop-next}
 
@@ -55,6 +55,13 @@ module _ {A : Type 0} {f : A → A} {old : List A} where
         length-first zero l h = refl
         length-first (suc i) [] h = absurd (omega arith)
         length-first (suc i) (x ∷ l) h = ap suc (length-first i l (omega arith))
+
+    -- as many entries as before
+    pub renew-length : length now ≡ length old
+    renew-length =
+        ap length w.is ∙ length-append (map f (take i old)) (drop i old)
+        ∙ ap (λ (k : ℕ). k + length (drop i old)) (length-map (take i old) f)
+        ∙ sym (length-append (take i old) (drop i old)) ∙ ap length (take-append-drop i old)
 
     module _ (d : A) (h : i < length old) where
       -- an entry that is not reached yet is as it was

@@ -43,6 +43,9 @@ both {b = b} p q = ap (λ (x : Bool). x && b) p ∙ q
 pub not_first : {a : Bool} (b : Bool) → a ≡ false → a && b ≡ false
 not_first b p = ap (λ (x : Bool). x && b) p
 
+pub not-second : {a b : Bool} → a ≡ true → b ≡ false → a && b ≡ false
+not-second {b = b} p q = ap (λ (x : Bool). x && b) p ∙ q
+
 pub first_of : (a b : Bool) → a && b ≡ true → a ≡ true
 first_of true b e = refl
 first_of false b e = e
