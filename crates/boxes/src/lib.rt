@@ -4,8 +4,10 @@
 ghost use Rattle.std.specs.Prelude.{◌≡◌, ◌+◌, ◌*◌, ◌≤◌, ◌<◌, pos, get_or};
 ghost use Rattle.lists.specs.Sums.{flag};
 
+pub mod points;
 pub mod rows;
 
+pub use points::{boxes_over, covering};
 pub use rows::{RowCounts, count_row};
 
 // Boxes, each with its width in MHz: the souths at 0, the norths at count, the wests at 2 * count and the easts at 3 * count.
