@@ -3,11 +3,12 @@
 // `host/run cases --write` writes the cases and, by an implementation of its own, the lines that must come out.
 #![tactic(auto)]
 
-ghost use Rattle.std.specs.Prelude.{◌≤◌, ◌<◌, IfOk, IfSome, length};
+ghost use Rattle.std.specs.Prelude.{◌≡◌, ◌≤◌, ◌<◌, IfOk, IfSome, length};
+ghost use Rattle.map.specs.Format.{read_map};
+ghost use Rattle.records.specs.Promises.{loaded_by};
 
-use cases::{Played, answered, byte_at, licence_at, line, map_in, print, proposed, u32_at};
-use coverage::Holding;
-use records::{Kept, Next, Record};
+use cases::{Played, byte_at, licence_at, line, map_in, print, proposed, u32_at};
+use records::{Kept, Next, Record, RecordStep};
 use register::{Licence, Register};
 use std::io;
 use std::io::Read;
@@ -72,13 +73,13 @@ fn play(rt: &impl Print, s: &[u8], register: Register) -> io::Result<Played>
     })
 }
 
-// The record of a map; of one that is refused, a record of no area.
-fn loaded(rt: &impl Print, map: &[u8]) -> io::Result<Record> {
-    let blank = Record {
-        count: 0,
-        areas: [Kept::from(Holding::NONE); Record::AREAS],
-    };
-    answered(rt, "record", blank, Record::load(map))
+// The record of a map; of one that is refused, the record of no area.
+fn loaded(rt: &impl Print, map: &[u8]) -> io::Result<Record>
+    ensures { IfOk result (λ kept. kept ≡ loaded_by (read_map map.now)) }
+{
+    let load = Record::load_step(map);
+    print(rt, "record", u64::from(load.refusal))?;
+    Ok(load.kept)
 }
 
 // A count of items, and the items; then the record that they leave. An item that isn't there whole ends the block.
@@ -147,8 +148,8 @@ fn u64_at(s: &[u8], at: usize) -> u64 {
 fn play_item(rt: &impl Print, item: Item, map: &[u8], both: Next) -> io::Result<Next> {
     let Next { register, mut kept } = both;
     match item {
-        Item::Grant(l) => answered(rt, "grant", both, kept.grant(map, register, l)),
-        Item::Cancel(sign) => answered(rt, "cancel", both, kept.cancel(map, register, sign)),
+        Item::Grant(l) => stepped(rt, "grant", kept.grant_step(map, register, l)),
+        Item::Cancel(sign) => stepped(rt, "cancel", kept.cancel_step(map, register, sign)),
         Item::Propose(draw) => {
             print(rt, "propose", u64::from(draw))?;
             proposed(rt, kept.propose(draw))?;
@@ -172,6 +173,18 @@ fn play_item(rt: &impl Print, item: Item, map: &[u8], both: Next) -> io::Result<
             })
         }
     }
+}
+
+// Prints what a call is and the number of its refusal, 0 for none, and gives what it handed back to go on with.
+fn stepped(rt: &impl Print, call: &str, done: RecordStep) -> io::Result<Next>
+    ensures { IfOk result (λ next. (next.register ≡ done.step.next) × (next.kept ≡ done.kept)) }
+{
+    let RecordStep { step, kept } = done;
+    print(rt, call, u64::from(step.refusal))?;
+    Ok(Next {
+        register: step.next,
+        kept,
+    })
 }
 
 // The record's count, and its entries that aren't all 0.

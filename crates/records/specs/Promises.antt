@@ -17,7 +17,7 @@ use Rattle.records.specs.declared.Record.{Record}
 use Rattle.records.specs.declared.KeptRefusal.{KeptRefusal}
 use Rattle.records.specs.declared.KeptRefusal.TheVariants as refusal
 use Rattle.records.specs.declared.Next.{Next}
-use Rattle.records.specs.Record.{loaded, added, subtracted, changed}
+use Rattle.records.specs.Record.{loaded, no_record, added, subtracted, changed}
 
 -- the number of a refusal, by those of the call without a record
 abbrev pub Numbered : {E : Type 0} → (Gives : E → ℕ → Type 0) → KeptRefusal E → ℕ → Type 0
@@ -35,6 +35,16 @@ load_by (good areas e) = answers (loaded areas)
 
 abbrev pub LoadDone : Read (List Area) → Result Record Fault → Type 0
 LoadDone m r = answer_of r ≡ load_by m
+
+-- the same of a load that hands back a record in each case: the number, which is 0 only where nothing is refused, and the record
+abbrev pub LoadStep : Read (List Area) → (number : ℕ) → Record → Type 0
+LoadStep (bad n) number r = (number ≡ n) × (r ≡ no_record) × (number ≡ 0 → ⊥)
+LoadStep (good areas e) number r = (number ≡ 0) × (r ≡ loaded areas)
+
+-- what the caller goes on with after a load
+abbrev pub loaded_by : Read (List Area) → Record
+loaded_by (bad n) = no_record
+loaded_by (good areas e) = loaded areas
 
 -- "With a record both read the map and are first refused by 1 to 5", which leaves both as they were. Else the register and the number are
 -- those of the call without a record, and the record changes where the call is accepted

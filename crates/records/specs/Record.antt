@@ -34,6 +34,10 @@ record_by f areas = record { count = length areas; areas = map f areas ++ replic
 abbrev pub loaded : List Area → Record
 loaded = record_by kept_area
 
+-- what a refused load hands back
+abbrev pub no_record : Record
+no_record = record { count = 0; areas = replicate 32 no_kept }
+
 -- ---- "A grant adds the coverage of its ground and a cancellation subtracts it"
 
 -- an entry with other sums: "Of a record, a grant or a cancellation changes only sums"

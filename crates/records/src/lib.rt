@@ -3,20 +3,21 @@
 // from the record reads no map. The ways in are Record::load, grant, cancel and propose.
 #![tactic(auto)]
 
-ghost use Rattle.std.specs.Prelude.{◌≡◌, ◌≤◌, map as each};
+ghost use Rattle.std.specs.Prelude.{ℕ, ◌≡◌, ◌≤◌, map as each};
 ghost use Rattle.map.specs.Format.{read_map};
 ghost use Rattle.map.specs.Answers.{checked_number};
 ghost use Rattle.coverage.specs.declared.CoverageSums.{CoverageSums as Sums};
 ghost use Rattle.proposal.specs.Promises.{Answers};
 ghost use Rattle.records.specs.declared.KeptRefusal.TheVariants.{Map};
-ghost use Rattle.records.specs.Record.{kept, entries, area_fault, record_fault, proposal_from};
-ghost use Rattle.records.specs.Promises.{Numbered, LoadDone, GrantDone, CancelDone};
+ghost use Rattle.records.specs.Record.{no_record, kept, entries, area_fault, record_fault, proposal_from};
+ghost use Rattle.records.specs.Promises.{Numbered, LoadStep, LoadDone, GrantKept, GrantDone, CancelKept, CancelDone};
+ghost use Rattle.records.specs.Promises.{next_step, next_record};
 ghost use Rattle.records.specs.Code.{sums_in, plus_sums, minus_sums, moved, moved_all, held_by};
 
 use coverage::{CoverageSums, Holding};
 use map::Fault;
 use proposal::{Proposal, ProposalRefusal};
-use register::{GrantRefusal, Licence, NotInForce, Register};
+use register::{GrantRefusal, Licence, NotInForce, Register, Step};
 use units::{Amount, Cells, MhzPops, People};
 
 // What a record keeps of an area: its number, weight and population as the map had them, and its sums over the licences in force, c in
@@ -51,6 +52,21 @@ pub enum KeptRefusal<E> {
 #[derive(Clone, Copy)]
 pub struct Next {
     pub register: Register,
+    pub kept: Record,
+}
+
+// What a load hands back in each case: the record, which is blank where the map is refused, and document 01's number of the refusal, 0 for
+// none.
+#[derive(Clone, Copy)]
+pub struct Loaded {
+    pub kept: Record,
+    pub refusal: u32,
+}
+
+// What a grant or a cancellation hands back in each case: the step of the register, and the next record.
+#[derive(Clone, Copy)]
+pub struct RecordStep {
+    pub step: Step,
     pub kept: Record,
 }
 
@@ -198,6 +214,43 @@ impl Record {
         })
     }
 
+    // The record of no area: what a refused load hands back.
+    pub fn blank() -> Record
+        ensures { result ≡ no_record }
+    {
+        Record {
+            count: 0,
+            areas: [Kept::from(Holding::NONE); Self::AREAS],
+        }
+    }
+
+    // A load that hands back a record in each case, with its refusal as a number beside it.
+    pub fn load_step(map: &[u8]) -> Loaded
+        ensures { LoadStep (read_map map.now) result.refusal result.kept }
+    {
+        match Record::load(map) {
+            Ok(kept) => Loaded { kept, refusal: 0 },
+            Err(fault) => Loaded {
+                kept: Record::blank(),
+                refusal: u32::from(fault),
+            },
+        }
+    }
+
+    // A grant that hands back register and record in each case, with its refusal as a number beside them. Refused, both are those passed.
+    pub fn grant_step(self, map: &[u8], register: Register, l: Licence) -> RecordStep
+        ensures { GrantKept (read_map map.now) register self l result.step result.kept }
+    {
+        handed_back(register, self, self.grant(map, register, l))
+    }
+
+    // So does a cancellation.
+    pub fn cancel_step(self, map: &[u8], register: Register, call_sign: u32) -> RecordStep
+        ensures { CancelKept (read_map map.now) register self call_sign result.step result.kept }
+    {
+        handed_back(register, self, self.cancel(map, register, call_sign))
+    }
+
     // The proposal for what the record keeps: refused by its first fault, 2, 4 or 5, and then by 12.
     pub fn propose(self, draw: u32) -> Result<Proposal, ProposalRefusal>
         ensures { Answers (proposal_from self draw) result }
@@ -242,6 +295,33 @@ impl Record {
             count: self.count,
             areas: kept,
         }
+    }
+}
+
+// What a call hands back in each case: what it made, or, refused, what it was passed.
+fn handed_back<E: Into<u32>>(
+    register: Register,
+    kept: Record,
+    done: Result<Next, KeptRefusal<E>>,
+) -> RecordStep
+    ensures { (number : E → ℕ) → ((e : E) (n : ℕ) → E.converts e n → n ≡ number e)
+        → (result.step ≡ next_step number register done) × (result.kept ≡ next_record kept done) }
+{
+    match done {
+        Ok(next) => RecordStep {
+            step: Step {
+                next: next.register,
+                refusal: 0,
+            },
+            kept: next.kept,
+        },
+        Err(refusal) => RecordStep {
+            step: Step {
+                next: register,
+                refusal: u32::from(refusal),
+            },
+            kept,
+        },
     }
 }
 
