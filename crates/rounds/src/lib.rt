@@ -98,8 +98,11 @@ impl Area<'_> {
         }
         let n = self.grid.rows * self.grid.columns;
         let marked = mask[..n].iter().any(|b| 1 < *b);
+        if marked {
+            return false;
+        }
         let crowded = self.people[..n].iter().any(|people| 1000000 < *people);
-        if marked || crowded {
+        if crowded {
             return false;
         }
         0 < share.0 && share < self.value(self.people_of(self.cells, 1))

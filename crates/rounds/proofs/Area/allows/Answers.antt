@@ -14,8 +14,7 @@ use Rattle.ring.proofs.RingLaws.{fits_in}
 use Rattle.rounds.specs.Footprint.{value}
 use Rattle.rounds.specs.Code.{people_with, some_above}
 use Rattle.rounds.proofs.LimitLaws.{any_above, SizesFit, sizes-in, limits-are, none_above, set-most}
-use Rattle.rounds.proofs.Area.allows.Goals.{Else-not-sizes_fit, After-any-crowded}
-use Rattle.rounds.proofs.Area.allows.Goals.{then-marked-via-then-marked, then-marked-via-else-marked+then-crowded}
+use Rattle.rounds.proofs.Area.allows.Goals.{Else-not-sizes_fit, After-any-marked, After-any-crowded}
 use Rattle.rounds.proofs.Area.allows.Goals as goal
 
 -- the sizes, each by itself
@@ -38,7 +37,7 @@ pub slice_bounds-iter-end : goal.slice_bounds-iter-end
 slice_bounds-iter-end c = sym (length-take-le _ c.args.mask.now (long (goal.at.slice_bounds-iter-end c).Else-not-sizes_fit))
 
 -- whether some byte is a mark, and whether some place has more people than the limit
-marked : (c : After-any-crowded) →
+marked : (c : After-any-marked) →
     let a = c.args in
     let n = a.self.grid.rows * a.self.grid.columns in
     n ≤ length a.mask.now → c.any-marked.result ≡ some_above 1 a.mask.now n
@@ -63,25 +62,30 @@ crowded c h =
 pub returns-then-marked : goal.returns-then-marked
 returns-then-marked c =
     let a = c.args in
-    let some = (goal.at.returns-then-marked c).After-any-crowded in
+    let some = (goal.at.returns-then-marked c).After-any-marked in
     let sizes = (goal.at.returns-then-marked c).Else-not-sizes_fit in
-    elim c.then-marked.branch [
-      | then-marked-via-then-marked w ↦ rw (
-        limits-are a.self.grid.rows a.self.grid.columns a.self.weight a.share.0 a.mask.now a.self.cells.now a.self.people.now,
-        sym c.sizes_fit.ensures ∙ c.if-not-sizes_fit.false,
-        le-leb 1 a.self.weight c.if-self-lt1.false,
-        le-leb a.self.weight 65535 c.if-self-gt65535.false,
-        sym (marked some (long sizes)) ∙ w.if-marked.true,
-      )
-      | then-marked-via-else-marked+then-crowded w ↦ rw (
-        limits-are a.self.grid.rows a.self.grid.columns a.self.weight a.share.0 a.mask.now a.self.cells.now a.self.people.now,
-        sym c.sizes_fit.ensures ∙ c.if-not-sizes_fit.false,
-        le-leb 1 a.self.weight c.if-self-lt1.false,
-        le-leb a.self.weight 65535 c.if-self-gt65535.false,
-        sym (marked some (long sizes)) ∙ w.if-marked.false,
-        sym (crowded some (sized sizes).counted) ∙ w.if-crowded.true,
-      )
-    ]
+    rw (
+      limits-are a.self.grid.rows a.self.grid.columns a.self.weight a.share.0 a.mask.now a.self.cells.now a.self.people.now,
+      sym c.sizes_fit.ensures ∙ c.if-not-sizes_fit.false,
+      le-leb 1 a.self.weight c.if-self-lt1.false,
+      le-leb a.self.weight 65535 c.if-self-gt65535.false,
+      sym (marked some (long sizes)) ∙ c.if-marked.true,
+    )
+
+pub returns-then-crowded : goal.returns-then-crowded
+returns-then-crowded c =
+    let a = c.args in
+    let none = (goal.at.returns-then-crowded c).After-any-marked in
+    let some = (goal.at.returns-then-crowded c).After-any-crowded in
+    let sizes = (goal.at.returns-then-crowded c).Else-not-sizes_fit in
+    rw (
+      limits-are a.self.grid.rows a.self.grid.columns a.self.weight a.share.0 a.mask.now a.self.cells.now a.self.people.now,
+      sym c.sizes_fit.ensures ∙ c.if-not-sizes_fit.false,
+      le-leb 1 a.self.weight c.if-self-lt1.false,
+      le-leb a.self.weight 65535 c.if-self-gt65535.false,
+      sym (marked none (long sizes)) ∙ c.if-marked.false,
+      sym (crowded some (sized sizes).counted) ∙ c.if-crowded.true,
+    )
 
 pub people_of-requires : goal.people_of-requires
 people_of-requires c =
@@ -109,6 +113,7 @@ pub returns-then-share-gt0 : goal.returns-then-share-gt0
 unfolding value people_with
 returns-then-share-gt0 c =
     let a = c.args in
+    let none = (goal.at.returns-then-share-gt0 c).After-any-marked in
     let some = (goal.at.returns-then-share-gt0 c).After-any-crowded in
     let sizes = (goal.at.returns-then-share-gt0 c).Else-not-sizes_fit in
     let l : c.lt.result ≡ ltb a.share.0 c.value.result.0 = search rules in
@@ -117,7 +122,7 @@ returns-then-share-gt0 c =
       sym c.sizes_fit.ensures ∙ c.if-not-sizes_fit.false,
       le-leb 1 a.self.weight c.if-self-lt1.false,
       le-leb a.self.weight 65535 c.if-self-gt65535.false,
-      sym (marked some (long sizes)) ∙ c.if-marked.false,
+      sym (marked none (long sizes)) ∙ c.if-marked.false,
       sym (crowded some (sized sizes).counted) ∙ c.if-crowded.false,
       lt-ltb 0 a.share.0 c.if-share-gt0.true,
       c.value.ensures,
