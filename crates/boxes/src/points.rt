@@ -1,11 +1,12 @@
-// Boxes that a caller lends as a slice of their edges, held against a point: a slice has no fact of its own, as Boxes has.
+// Boxes that a caller lends as a slice of their edges, held against a point.
+// Kept beside Boxes::at and Boxes::covering, which have their count by a fact: of a slice its length tells it, and any slice may be lent.
 ghost use Rattle.std.specs.Prelude.{◌≡◌, ◌+◌, ◌*◌, ◌/◌, ◌≤◌, ◌<◌, cond, leb, pos, length, get_or};
 ghost use Rattle.boxes.specs.Boxes.{boxes_over};
 
 use super::Edges;
 
 // The edges of box i.
-fn box_at(edges: &[i32], i: usize) -> Edges
+fn edges_at(edges: &[i32], i: usize) -> Edges
     requires { (length edges.now ≤ 256) × (i < length edges.now / 4) }
     ensures south { result.south ≡ get_or edges.now i (pos 0) }
     ensures north { result.north ≡ get_or edges.now (length edges.now / 4 + i) (pos 0) }
@@ -28,7 +29,7 @@ pub fn boxes_over(edges: &[i32], latitude: i32, longitude: i32) -> u32
 {
     let mut count = 0;
     for i in 0..edges.len() / 4 {
-        count += u32::from(box_at(edges, i).covers(latitude, longitude));
+        count += u32::from(edges_at(edges, i).covers(latitude, longitude));
     }
     count
 }

@@ -1,6 +1,7 @@
 // Document 02, Paper 2: coverage kept beside the register. A record keeps, for each area of one loaded map, what the map says of it and the
 // sums over the licences in force; a grant adds what its ground covers and a cancellation subtracts what it strikes, so that a proposal
-// from the record reads no map. The ways in are Record::load, grant, cancel and propose.
+// from the record reads no map. The ways in are Record::load, grant, cancel and propose, and load_step,
+// grant_step and cancel_step, which hand back what the caller goes on with in each case.
 #![tactic(auto)]
 
 ghost use Rattle.std.specs.Prelude.{ℕ, ◌≡◌, ◌≤◌, map as each};
@@ -57,6 +58,7 @@ pub struct Next {
 
 // What a load hands back in each case: the record, which is blank where the map is refused, and document 01's number of the refusal, 0 for
 // none.
+// Kept as a number beside the record: a Result has no record where the map is refused.
 #[derive(Clone, Copy)]
 pub struct Loaded {
     pub kept: Record,
@@ -64,6 +66,7 @@ pub struct Loaded {
 }
 
 // What a grant or a cancellation hands back in each case: the step of the register, and the next record.
+// Kept beside Next, which a refused call does not make.
 #[derive(Clone, Copy)]
 pub struct RecordStep {
     pub step: Step,

@@ -13,7 +13,7 @@ loop-i-init c = (omega arith, refl)
 pub loop-i-preserved : goal.loop-i-preserved
 loop-i-preserved c =
     let l = c.loop-i in
-    let at = c.box_at.ensures in
+    let at = c.edges_at.ensures in
     let once : c.from-count.result ≤ 1 = byte_most c.covers.result c.from-count.ensures in
     let told = rw (at.south, at.north, at.west, at.east) at c.covers.ensures in (
       omega (arith, l.invariant.0, once),
